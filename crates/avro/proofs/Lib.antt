@@ -1,0 +1,5 @@
+pub mod Ends
+pub mod Groups
+pub mod Writes
+pub mod Fronts
+pub mod Runs
