@@ -1,6 +1,5 @@
 -- Avro's code keeps the laws of a carrier's code. Assumes nothing.
 use mathlib.Core.Path.{_≡_, refl, sym, ap, subst, _∙_}
-use mathlib.Core.Bool.{Bool, true, false, cond}
 use mathlib.Core.Logic.{_⊎_, inl, inr, ⊎-elim}
 use mathlib.Core.List.{List, [], _∷_, _++_, append-assoc}
 use Prim.Native.Nat.{ℕ, zero, suc, _+_, _*_, _/_, _%_, _^_, _≤_, _<_}
@@ -13,7 +12,7 @@ use mir.Syntax.{w64}
 use Rattle.std.proofs.shelf.Lists.{append-cancel-left, length-append}
 use Rattle.std.proofs.shelf.Tests.{cases-lt, lt-ltb, le-ltb, cond-true, cond-false}
 use Rattle.carrier.specs.Items.{Datum, truth, whole, single, double, run, fixed, Held, bulk, a-truth, a-whole, a-single, a-double, a-run, a-fixed, Apart, Short, Laws}
-use Rattle.carrier.specs.Prefixes.{heads, tails, same-length}
+use Rattle.carrier.specs.Prefixes.{heads, tails, same-length, bit-apart}
 use Rattle.avro.specs.Reading.{Small}
 use Rattle.avro.specs.Avro.{zig, groups, var, low, avro}
 
@@ -82,14 +81,8 @@ low-apart (suc k) m n s t p q e =
     let i = low-apart k (m / 256) (n / 256) s t p q (tails _ _ _ _ e) in
     omega arith
 
-truth-apart : (a b : Bool) (s t : List ℕ) → cond a 1 0 ∷ s ≡ cond b 1 0 ∷ t → a ≡ b
-truth-apart true true s t e = refl
-truth-apart true false s t e = let d = heads 1 0 s t e in absurd (omega arith)
-truth-apart false true s t e = let d = heads 0 1 s t e in absurd (omega arith)
-truth-apart false false s t e = refl
-
 pub avro-apart : Apart avro
-avro-apart k i j s t (a-truth {b = a}) (a-truth {b = b}) p q e = ap truth (truth-apart a b s t e)
+avro-apart k i j s t (a-truth {b = a}) (a-truth {b = b}) p q e = ap truth (bit-apart a b (heads _ _ s t e))
 avro-apart k i j s t (a-whole {z = a}) (a-whole {z = b}) p q e =
     ap whole (zig-apart a b (groups-apart 9 (zig a) (zig b) s t (small-64 _ (zig-small a p)) (small-64 _ (zig-small b q)) e))
 avro-apart k i j s t (a-single {n = a}) (a-single {n = b}) p q e = ap single (low-apart 4 a b s t (omega arith) (omega arith) e)

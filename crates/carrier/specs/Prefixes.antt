@@ -1,5 +1,6 @@
 -- Lists of which one begins the other. Assumes nothing.
 use mathlib.Core.Path.{_≡_, refl}
+use mathlib.Core.Bool.{Bool, true, false, cond}
 use mathlib.Core.List.{List, [], _∷_, _++_}
 use Prim.Native.Nat.{ℕ}
 use native.Mathlib.Omega.{arith}
@@ -19,3 +20,9 @@ same-length (x ∷ a) (y ∷ b) s t l e =
     let p = heads x y (a ++ s) (b ++ t) e in
     let q = same-length a b s t (omega arith) (tails x y (a ++ s) (b ++ t) e) in
     cc
+
+pub bit-apart : (a b : Bool) → _≡_ {A = ℕ} (cond a 1 0) (cond b 1 0) → a ≡ b
+bit-apart true true e = refl
+bit-apart true false e = absurd (omega arith)
+bit-apart false true e = absurd (omega arith)
+bit-apart false false e = refl
