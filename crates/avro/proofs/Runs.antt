@@ -16,7 +16,7 @@ use Rattle.avro.specs.Places.{Gone}
 use Rattle.carrier.specs.declared.Kind.the-variants as kind
 use lib.IntN.{ℤ}
 use mathlib.Core.Bool.{Bool}
-use Rattle.avro.specs.Codes.{small-64, groups-apart}
+use Rattle.avro.specs.Codes.{small-64, groups-same}
 
 module _ (s : List ℕ) (n at : ℕ) (r : Read 9 s n at) where
   pub read-inside : at ≤ length s
@@ -39,7 +39,7 @@ module _ (s : List ℕ) (n at : ℕ) (r : Read 9 s n at) where
   pub run-there : (bs rest : List ℕ) → Held (run bs) → s ≡ avro (run bs) ++ rest → (n ≡ length bs * 2) × (length bs ≤ length s - at)
   run-there bs rest h e =
       let f = e ∙ append-assoc (var (length bs * 2)) bs rest in
-      let same = groups-apart 9 n (length bs * 2) (drop at s) (bs ++ rest) (r .small) (small-64 _ (omega (arith, h .0))) (sym (r .front) ∙ f) in
+      let same = groups-same 9 n (length bs * 2) (drop at s) (bs ++ rest) (r .small) (small-64 _ (omega (arith, h .0))) (sym (r .front) ∙ f) in
       let tail : drop at s ≡ bs ++ rest = append-cancel-left (var n) (drop at s) (bs ++ rest) (sym (r .front) ∙ f ∙ ap (λ m. var m ++ (bs ++ rest)) (sym same)) in
       (same, omega (arith, h .0, ap length tail, length-append bs rest, length-drop at s))
 

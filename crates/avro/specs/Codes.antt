@@ -40,10 +40,10 @@ groups-some zero n = omega arith
 groups-some (suc f) n = ⊎-elim (λ h. rw (groups-last (suc f) n h) (omega arith)) (λ h. rw (groups-next f n h) (omega arith)) (cases-lt n 128)
 
 -- neither of two numbers' groups begins the other's
-pub groups-apart : (f m n : ℕ) (s t : List ℕ) → Small f m → Small f n → groups f m ++ s ≡ groups f n ++ t → m ≡ n
+pub groups-same : (f m n : ℕ) (s t : List ℕ) → Small f m → Small f n → groups f m ++ s ≡ groups f n ++ t → m ≡ n
 unfolding groups
-groups-apart zero m n s t p q e = heads m n s t e
-groups-apart (suc f) m n s t p q e =
+groups-same zero m n s t p q e = heads m n s t e
+groups-same (suc f) m n s t p q e =
     ⊎-elim
     (λ h. ⊎-elim
         (λ k. heads m n s t (rw (groups-last (suc f) m h, groups-last (suc f) n k) at e))
@@ -54,7 +54,7 @@ groups-apart (suc f) m n s t p q e =
         (λ k.
             let r = rw (groups-next f m h, groups-next f n k) at e in
             let d = heads _ _ _ _ r in
-            let i = groups-apart f (m / 128) (n / 128) s t p q (tails _ _ _ _ r) in
+            let i = groups-same f (m / 128) (n / 128) s t p q (tails _ _ _ _ r) in
             omega arith)
         (cases-lt n 128))
     (cases-lt m 128)
@@ -74,22 +74,22 @@ abbrev pub Low : ℕ → ℕ → Type 0
 Low zero n = n ≡ 0
 Low (suc k) n = Low k (n / 256)
 
-pub low-apart : (k m n : ℕ) (s t : List ℕ) → Low k m → Low k n → low k m ++ s ≡ low k n ++ t → m ≡ n
-low-apart zero m n s t p q e = p ∙ sym q
-low-apart (suc k) m n s t p q e =
+pub low-same : (k m n : ℕ) (s t : List ℕ) → Low k m → Low k n → low k m ++ s ≡ low k n ++ t → m ≡ n
+low-same zero m n s t p q e = p ∙ sym q
+low-same (suc k) m n s t p q e =
     let d = heads _ _ _ _ e in
-    let i = low-apart k (m / 256) (n / 256) s t p q (tails _ _ _ _ e) in
+    let i = low-same k (m / 256) (n / 256) s t p q (tails _ _ _ _ e) in
     omega arith
 
 pub avro-apart : Apart avro
 avro-apart k i j s t (a-truth {b = a}) (a-truth {b = b}) p q e = ap truth (bit-apart a b (heads _ _ s t e))
 avro-apart k i j s t (a-whole {z = a}) (a-whole {z = b}) p q e =
-    ap whole (zig-apart a b (groups-apart 9 (zig a) (zig b) s t (small-64 _ (zig-small a p)) (small-64 _ (zig-small b q)) e))
-avro-apart k i j s t (a-single {n = a}) (a-single {n = b}) p q e = ap single (low-apart 4 a b s t (omega arith) (omega arith) e)
-avro-apart k i j s t (a-double {n = a}) (a-double {n = b}) p q e = ap double (low-apart 8 a b s t (omega arith) (omega arith) e)
+    ap whole (zig-apart a b (groups-same 9 (zig a) (zig b) s t (small-64 _ (zig-small a p)) (small-64 _ (zig-small b q)) e))
+avro-apart k i j s t (a-single {n = a}) (a-single {n = b}) p q e = ap single (low-same 4 a b s t (omega arith) (omega arith) e)
+avro-apart k i j s t (a-double {n = a}) (a-double {n = b}) p q e = ap double (low-same 8 a b s t (omega arith) (omega arith) e)
 avro-apart k i j s t (a-run {bs = a} f) (a-run {bs = b} g) p q e =
     let r = sym (append-assoc (var (length a * 2)) a s) ∙ e ∙ append-assoc (var (length b * 2)) b t in
-    let l : length a * 2 ≡ length b * 2 = groups-apart 9 (length a * 2) (length b * 2) (a ++ s) (b ++ t) (small-64 _ (omega (arith, p .0))) (small-64 _ (omega (arith, q .0))) r in
+    let l : length a * 2 ≡ length b * 2 = groups-same 9 (length a * 2) (length b * 2) (a ++ s) (b ++ t) (small-64 _ (omega (arith, p .0))) (small-64 _ (omega (arith, q .0))) r in
     ap run (same-length a b s t (omega arith) (append-cancel-left (var (length a * 2)) (a ++ s) (b ++ t) (r ∙ ap (λ n. var n ++ (b ++ t)) (sym l))))
 avro-apart k i j s t (a-fixed {bs = a} f) (a-fixed {bs = b} g) p q e = ap fixed (same-length a b s t (f ∙ sym g) e)
 

@@ -28,7 +28,7 @@ pub fn bytes_held(s: &[u8])
 }
 
 /// Shows that the item lies in its ranges.
-fn item_held(item: Item)
+pub fn item_held(item: Item)
     ensures held { λ _. ⌜ Held (datum (item .entry)) ⌝ }
 {
     match item {
