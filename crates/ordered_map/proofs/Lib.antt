@@ -1,0 +1,5 @@
+pub mod Pairs
+pub mod Growing
+pub mod Inserting
+pub mod Orders
+pub mod Laws

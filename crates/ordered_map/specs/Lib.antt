@@ -1,0 +1,3 @@
+pub mod Content
+pub mod Maps
+pub mod Insertions
