@@ -1,5 +1,7 @@
 //! Answers that say no: refusals, and lines that are no calls. docs/SCRIPT.md has the language in words.
 
+#![tactic(auto)]
+
 ghost use Rattle.std.specs.Prelude.{◌≡◌, string_bytes};
 ghost use Rattle.answers.specs.Refusing.{layer_name, sentence_of, taken_text, numbered_text, case_text, bad_text};
 ghost use Rattle.print.specs.Printing.{Adds};

@@ -1,5 +1,7 @@
 //! The Avro carrier: Avro's binary codes in given bytes, with a place to write and a place to take from.
 
+#![tactic(auto)]
+
 ghost use Rattle.std.specs.Prelude.{◌≡◌, ℕ, ◌+◌, ◌-◌, ◌*◌, ◌≤◌, [], ◌++◌, length, take, drop, if◌then◌else◌};
 ghost use Rattle.carrier.specs.Items.{Laws, truth, single, double};
 ghost use Rattle.carrier.specs.Meaning.{datum, no_such_item};

@@ -1,6 +1,8 @@
 //! Carriers: queues of numbers through which items pass, by their meaning alone.
 //! docs/CARRIERS.md has the rules in words.
 
+#![tactic(auto)]
+
 ghost use Rattle.std.specs.Prelude.{◌≡◌, ℕ, ◌-◌, ◌^◌, ◌<◌, min, List, length, nat_lt};
 ghost use Rattle.carrier.specs.Items.{Datum, truth, whole, single, double, bulk, Laws};
 ghost use Rattle.carrier.specs.Meaning.{datum, case_of};

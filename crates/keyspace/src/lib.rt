@@ -1,5 +1,7 @@
 //! Key spaces and the index over them. docs/KEYSPACES.md describes them.
 
+#![tactic(auto)]
+
 pub mod fields;
 pub mod index;
 pub mod name;

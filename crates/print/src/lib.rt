@@ -1,5 +1,7 @@
 //! What is printed of numbers, bytes, texts and items. docs/SCRIPT.md has the language in words.
 
+#![tactic(auto)]
+
 ghost use Rattle.std.specs.Prelude.{◌≡◌, ◌<◌, ◌∷◌, string_bytes, decimal};
 ghost use Rattle.std.specs.Fmt.{signed_decimal};
 ghost use Rattle.carrier.specs.Meaning.{datum};

@@ -1,5 +1,7 @@
 //! Why a call says no, one number for each reason, and the two counts by which a field is named.
 
+#![tactic(auto)]
+
 ghost use Rattle.std.specs.Prelude.{◌≡◌};
 ghost use Rattle.refusal.specs.Numbers.{number_of};
 

@@ -1,5 +1,7 @@
 //! The calls of the script language, one a line. docs/SCRIPT.md has the language in words.
 
+#![tactic(auto)]
+
 pub mod call;
 pub mod items;
 mod keys;

@@ -1,6 +1,8 @@
 //! What words of the script language spell: numbers and names, and why a line is no call.
 //! docs/SCRIPT.md has the language in words.
 
+#![tactic(auto)]
+
 pub mod bad;
 pub mod names;
 pub mod numbers;

@@ -1,6 +1,8 @@
 //! Plays a script: one call a line on standard input, or in the file named as argument, and one answer
 //! a line.
 
+#![tactic(auto)]
+
 mod lines;
 mod lookups;
 mod play;

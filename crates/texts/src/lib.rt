@@ -1,6 +1,8 @@
 //! What words of the script language spell: bytes and bits in hex, and texts in quotes. docs/SCRIPT.md has the
 //! language in words.
 
+#![tactic(auto)]
+
 ghost use Rattle.std.specs.Prelude.{◌≡◌, ◌^◌, ◌<◌, ◌≤◌, IfSome};
 ghost use Rattle.std.specs.Option.{ok_or};
 ghost use Rattle.texts.specs.Encoded.{hex_digit, byte_of, bytes_of, bits_of, shown, escape_of, text_of, Gains};

@@ -4,6 +4,8 @@
 //! whole its two's complement, for a single and a double its bits, for a run its length and a word
 //! for each byte, for a fixed a word for each byte.
 
+#![tactic(auto)]
+
 ghost use Rattle.std.specs.Prelude.{◌≡◌, ◌≤◌, [], length};
 ghost use Rattle.carrier.specs.Items.{Laws};
 ghost use Rattle.carrier.specs.Meaning.{no_such_item};

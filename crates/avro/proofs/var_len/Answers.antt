@@ -5,8 +5,8 @@ use Rattle.avro.proofs.var_len.Goals as goal
 pub loop-left-init : goal.loop-left-init
 loop-left-init c = counting_none c.args.n (search rules)
 
-pub overflow-add-k : goal.overflow-add-k
-overflow-add-k c = let h = counting_few _ _ _ c.loop-left.invariant in search rules
+pub overflow_add-k : goal.overflow_add-k
+overflow_add-k c = let h = counting_few _ _ _ c.loop-left.invariant in search rules
 
 pub loop-left-preserved : goal.loop-left-preserved
 loop-left-preserved c = counting_more _ _ _ c.loop-left-test.true c.loop-left.invariant

@@ -11,11 +11,11 @@ returns t c = record {
   added =
       let n = c.args.n in
       let k = c.args.count in
-      let mid = string_bytes c.add-digits.new.out in
+      let mid = string_bytes c.add_digits.new.out in
       let after = string_bytes c.push.new.self in
       let r = c.push.result in
-      let last = c.push.ensures.ascii c.digit.ensures.ascii ∙ ap (λ x. x ∷ []) c.digit.ensures.the-digit in
+      let last = c.push.ensures.ascii c.digit.ensures.ascii ∙ ap (λ x. x ∷ []) c.digit.ensures.the_digit in
       let e = c.push.ensures.bytes ∙ ap (λ l. cond (is_ok r) (mid ++ l) mid) last in
       subst (λ l. Adds r l (string_bytes c.args.out.now) after) (sym (digits_step n k (omega arith)))
-      (then_adds r (string_bytes c.args.out.now) mid after (hex_digits (k - 1) (n / 16)) (glyph (n % 16) ∷ []) c.in-ok-add-digits.ensures.added (pushes r mid after (glyph (n % 16) ∷ []) e));
+      (then_adds r (string_bytes c.args.out.now) mid after (hex_digits (k - 1) (n / 16)) (glyph (n % 16) ∷ []) c.in_ok-add_digits.ensures.added (pushes r mid after (glyph (n % 16) ∷ []) e));
 }

@@ -6,6 +6,6 @@ use Rattle.print.proofs.bits.Goals as goal
 pub returns : goal.returns
 returns c = record {
   added =
-      then_adds c.add-digits.result (string_bytes c.args.out.now) (string_bytes c.push-str.new.self) (string_bytes c.add-digits.new.out) (120 ∷ []) (hex_digits c.args.count c.args.n)
-      c.in-ok-push-str.ensures.bytes c.add-digits.ensures.added;
+      then_adds c.add_digits.result (string_bytes c.args.out.now) (string_bytes c.push_str.new.self) (string_bytes c.add_digits.new.out) (120 ∷ []) (hex_digits c.args.count c.args.n)
+      c.in_ok-push_str.ensures.bytes c.add_digits.ensures.added;
 }

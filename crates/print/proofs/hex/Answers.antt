@@ -6,13 +6,13 @@ use Rattle.print.proofs.hex.Goals as goal
 
 pub loop-b-preserved : goal.loop-b-preserved
 loop-b-preserved c =
-    joins_more (hex_digits 2) (string_bytes c.push-str.new.self) c.args.bytes.now (string_bytes c.loop-b.out) (string_bytes c.add-digits.new.out) c.loop-b.b-index 0 c.loop-b-test.true c.loop-b.invariant
-    (c.in-ok-add-digits.ensures.added ∙ ap (λ n. string_bytes c.loop-b.out ++ hex_digits 2 n) c.from.ensures)
+    joins_more (hex_digits 2) (string_bytes c.push_str.new.self) c.args.bytes.now (string_bytes c.loop-b.out) (string_bytes c.add_digits.new.out) c.loop-b.b-index 0 c.loop-b-test.true c.loop-b.invariant
+    (c.in_ok-add_digits.ensures.added ∙ ap (λ n. string_bytes c.loop-b.out ++ hex_digits 2 n) c.from.ensures)
 
 pub returns : goal.returns
 returns c = record {
   added =
-      then_added (string_bytes c.args.out.now) (string_bytes c.push-str.new.self) (string_bytes c.loop-b.out) (120 ∷ []) (flat_map (hex_digits 2) c.args.bytes.now) c.in-ok-push-str.ensures.bytes
-      (joins_all (hex_digits 2) (string_bytes c.push-str.new.self) c.args.bytes.now (string_bytes c.loop-b.out) c.loop-b.b-index c.loop-b-test.false c.loop-b.invariant);
-  read_back = c.bytes-read-back.ensures.read_back;
+      then_added (string_bytes c.args.out.now) (string_bytes c.push_str.new.self) (string_bytes c.loop-b.out) (120 ∷ []) (flat_map (hex_digits 2) c.args.bytes.now) c.in_ok-push_str.ensures.bytes
+      (joins_all (hex_digits 2) (string_bytes c.push_str.new.self) c.args.bytes.now (string_bytes c.loop-b.out) c.loop-b.b-index c.loop-b-test.false c.loop-b.invariant);
+  read_back = c.bytes_read_back.ensures.read_back;
 }

@@ -8,11 +8,11 @@ use Rattle.print.proofs.items.Goals as goal
 pub loop-c-preserved : goal.loop-c-preserved
 loop-c-preserved c =
     let s1 = string_bytes c.loop-c.out in
-    let s2 = string_bytes c.push-str.new.self in
+    let s2 = string_bytes c.push_str.new.self in
     let s3 = string_bytes c.item-in-loop-c.new.out in
     let d = read c.args.bytes.now (get_or c.args.cells.now c.loop-c.c-index (Truth false)) in
     joins_more (λ x. 32 ∷ item_text (read c.args.bytes.now x)) (string_bytes c.args.out.now) c.args.cells.now s1 s3 c.loop-c.c-index (Truth false) c.loop-c-test.true c.loop-c.invariant
-    (then_added s1 s2 s3 (32 ∷ []) (item_text d) c.in-ok-push-str.ensures.bytes (c.in-ok-item.ensures.added ∙ ap (λ x. s2 ++ item_text x) c.item.ensures.is_read))
+    (then_added s1 s2 s3 (32 ∷ []) (item_text d) c.in_ok-push_str.ensures.bytes (c.in_ok-item.ensures.added ∙ ap (λ x. s2 ++ item_text x) c.item.ensures.is_read))
 
 pub returns : goal.returns
 returns c = record { added = joins_all (λ x. 32 ∷ item_text (read c.args.bytes.now x)) (string_bytes c.args.out.now) c.args.cells.now (string_bytes c.loop-c.out) c.loop-c.c-index c.loop-c-test.false c.loop-c.invariant }

@@ -6,20 +6,20 @@ use Rattle.print.proofs.text.Goals as goal
 
 pub loop-b-preserved : goal.loop-b-preserved
 loop-b-preserved c =
-    joins_more byte_text (string_bytes c.push-str.new.self) c.args.bytes.now (string_bytes c.loop-b.out) (string_bytes c.text-byte.new.out) c.loop-b.b-index 0 c.loop-b-test.true c.loop-b.invariant
-    c.in-ok-text-byte.ensures.added
+    joins_more byte_text (string_bytes c.push_str.new.self) c.args.bytes.now (string_bytes c.loop-b.out) (string_bytes c.text_byte.new.out) c.loop-b.b-index 0 c.loop-b-test.true c.loop-b.invariant
+    c.in_ok-text_byte.ensures.added
 
 pub returns : goal.returns
 returns c = record {
   added =
       let before = string_bytes c.args.out.now in
       let out = string_bytes c.loop-b.out in
-      let after = string_bytes c.push-str-2.new.self in
+      let after = string_bytes c.push_str-2.new.self in
       let bs = c.args.bytes.now in
-      let r = c.push-str-2.result in
+      let r = c.push_str-2.result in
       then_adds r before out after (34 ∷ flat_map byte_text bs) (34 ∷ [])
-      (then_added before (string_bytes c.push-str.new.self) out (34 ∷ []) (flat_map byte_text bs) c.in-ok-push-str.ensures.bytes
-      (joins_all byte_text (string_bytes c.push-str.new.self) bs out c.loop-b.b-index c.loop-b-test.false c.loop-b.invariant))
-      (pushes r out after (34 ∷ []) c.push-str-2.ensures.bytes);
-  reads-back = c.text-reads-back.ensures.reads-back;
+      (then_added before (string_bytes c.push_str.new.self) out (34 ∷ []) (flat_map byte_text bs) c.in_ok-push_str.ensures.bytes
+      (joins_all byte_text (string_bytes c.push_str.new.self) bs out c.loop-b.b-index c.loop-b-test.false c.loop-b.invariant))
+      (pushes r out after (34 ∷ []) c.push_str-2.ensures.bytes);
+  reads_back = c.text_reads_back.ensures.reads_back;
 }

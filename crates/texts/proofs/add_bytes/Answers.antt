@@ -18,12 +18,12 @@ returns-then-i-word c = record {
       inr (refl, none_left (vec_items c.loop-i.out) (vec_items c.args.out.now) w c.loop-i.i c.loop-i.invariant.1 (pairs_odd w c.loop-i.i c.if-i-word.true) (bytes_word w some c.if-word-ne120.false));
 }
 
-pub returns-in-default : goal.returns-in-default
-returns-in-default c = record {
+pub returns-in_default : goal.returns-in_default
+returns-in_default c = record {
   added =
       let w = c.args.word.now in
       let some : 0 < length w = omega arith in
-      inr (refl, none_left (vec_items c.loop-i.out) (vec_items c.args.out.now) w c.loop-i.i c.loop-i.invariant.1 (pairs_none w c.loop-i.i (omega arith) c.in-default.ensures.the-byte) (bytes_word w some c.if-word-ne120.false));
+      inr (refl, none_left (vec_items c.loop-i.out) (vec_items c.args.out.now) w c.loop-i.i c.loop-i.invariant.1 (pairs_none w c.loop-i.i (omega arith) c.in_default.ensures.the_byte) (bytes_word w some c.if-word-ne120.false));
 }
 
 pub loop-i-preserved : goal.loop-i-preserved
@@ -33,15 +33,15 @@ loop-i-preserved c =
     let out = vec_items c.loop-i.out in
     let x = c.in-Some.b in (
       omega arith,
-      ap (λ l. option_map (λ xs. l ++ xs) (pairs_of (drop (i + 2) w))) c.in-ok-push.ensures.items
-          ∙ onto_push out x (pairs_of (drop (i + 2) w)) ∙ sym (ap (option_map (λ xs. out ++ xs)) (pairs_more w i x (omega arith) c.in-Some.ensures.the-byte)) ∙ c.loop-i.invariant.1,
+      ap (λ l. option_map (λ xs. l ++ xs) (pairs_of (drop (i + 2) w))) c.in_ok-push.ensures.items
+          ∙ onto_push out x (pairs_of (drop (i + 2) w)) ∙ sym (ap (option_map (λ xs. out ++ xs)) (pairs_more w i x (omega arith) c.in-Some.ensures.the_byte)) ∙ c.loop-i.invariant.1,
     )
 
 pub returns : goal.returns
 returns c = record {
   added =
       let w = c.args.word.now in
-      let some : 0 < length w = omega (arith, eqb-false (length w) 0 (sym c.if-is-empty.ensures)) in
+      let some : 0 < length w = omega (arith, eqb-false (length w) 0 (sym c.if-is_empty.ensures)) in
       let out = vec_items c.loop-i.out in
       ap (option_map (λ xs. vec_items c.args.out.now ++ xs)) (bytes_word w some c.if-word-ne120.false) ∙ sym c.loop-i.invariant.1
       ∙ ap (option_map (λ xs. out ++ xs)) (pairs_all w c.loop-i.i c.loop-i-test.false) ∙ mapped_nil out;

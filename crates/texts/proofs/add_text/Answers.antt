@@ -8,8 +8,8 @@ use Rattle.texts.proofs.Quotes.{text_word, escape_long, text_shown, text_not_sho
 use Rattle.texts.proofs.add_text.Goals as goal
 use Rattle.texts.proofs.add_text.Goals.{then-loop-i-test+else-word-i-ne34, else-loop-i-test}
 
-pub returns-in-default : goal.returns-in-default
-returns-in-default c = record {
+pub returns-in_default : goal.returns-in_default
+returns-in_default c = record {
   added =
       let w = c.args.word.now in
       let i = c.loop-i.i in
@@ -17,7 +17,7 @@ returns-in-default c = record {
       inr (
         refl,
         text_none (vec_items c.loop-i.out) (vec_items c.args.out.now) w i some c.if-word-ne34.false c.loop-i.invariant.2
-            (text_no_escape w i c.loop-i-test.true c.if-word-i-eq92.true (c.in-default.ensures.spelled ∙ ap escape_of (take_rest w i))),
+            (text_no_escape w i c.loop-i-test.true c.if-word-i-eq92.true (c.in_default.ensures.spelled ∙ ap escape_of (take_rest w i))),
       );
 }
 
@@ -30,7 +30,7 @@ loop-i-preserved-then-word-i-eq92 c =
     let e = c.in-Some.ensures.spelled ∙ ap escape_of (take_rest w i) in (
       omega arith,
       omega (arith, escape_long (drop i w) x e, length-drop i w),
-      ap (λ l. option_map (λ xs. l ++ xs) (quoted 0 (drop (i + 4) w))) c.in-ok-push.ensures.items
+      ap (λ l. option_map (λ xs. l ++ xs) (quoted 0 (drop (i + 4) w))) c.in_ok-push.ensures.items
           ∙ onto_push out x (quoted 0 (drop (i + 4) w)) ∙ sym (ap (option_map (λ xs. out ++ xs)) (text_escape w i c.loop-i-test.true x c.if-word-i-eq92.true e)) ∙ c.loop-i.invariant.2,
     )
 
@@ -41,13 +41,13 @@ loop-i-preserved c =
     let out = vec_items c.loop-i.out in (
       omega arith,
       omega arith,
-      ap (λ l. option_map (λ xs. l ++ xs) (quoted 0 (drop (i + 1) w))) c.in-ok-push-2.ensures.items
+      ap (λ l. option_map (λ xs. l ++ xs) (quoted 0 (drop (i + 1) w))) c.in_ok-push-2.ensures.items
           ∙ onto_push out (get_or w i 0) (quoted 0 (drop (i + 1) w))
-          ∙ sym (ap (option_map (λ xs. out ++ xs)) (text_shown w i c.loop-i-test.true c.if-word-i-ne34.true c.if-word-i-eq92.false c.if-is-shown.ensures.tested)) ∙ c.loop-i.invariant.2,
+          ∙ sym (ap (option_map (λ xs. out ++ xs)) (text_shown w i c.loop-i-test.true c.if-word-i-ne34.true c.if-word-i-eq92.false c.if-is_shown.ensures.tested)) ∙ c.loop-i.invariant.2,
     )
 
-pub returns-else-is-shown : goal.returns-else-is-shown
-returns-else-is-shown c = record {
+pub returns-else-is_shown : goal.returns-else-is_shown
+returns-else-is_shown c = record {
   added =
       let w = c.args.word.now in
       let i = c.loop-i.i in
@@ -55,7 +55,7 @@ returns-else-is-shown c = record {
       inr (
         refl,
         text_none (vec_items c.loop-i.out) (vec_items c.args.out.now) w i some c.if-word-ne34.false c.loop-i.invariant.2
-            (text_not_shown w i c.loop-i-test.true c.if-word-i-ne34.true c.if-word-i-eq92.false c.if-is-shown.ensures.tested),
+            (text_not_shown w i c.loop-i-test.true c.if-word-i-ne34.true c.if-word-i-eq92.false c.if-is_shown.ensures.tested),
       );
 }
 

@@ -24,35 +24,35 @@ hex_end n i k w h l e =
     let most : 16 ^ i ≤ 16 ^ k = pow-le-pow_right some few in
     omega arith
 
-pub overflow-mul-n : goal.overflow-mul-n
-overflow-mul-n c = record { fits = omega (arith, fits_more c.loop-b.n c.loop-b.b-index c.args.digits c.args.word.now c.loop-b.invariant.0 c.loop-b-test.true c.if-word-digits.false c.requires) }
+pub overflow_mul-n : goal.overflow_mul-n
+overflow_mul-n c = record { fits = omega (arith, fits_more c.loop-b.n c.loop-b.b-index c.args.digits c.args.word.now c.loop-b.invariant.0 c.loop-b-test.true c.if-word-digits.false c.requires) }
 
-pub returns-in-err-nibble : goal.returns-in-err-nibble
-returns-in-err-nibble c = record {
+pub returns-in_err-nibble : goal.returns-in_err-nibble
+returns-in_err-nibble c = record {
   spelled =
-      c.from-residual.ensures ∙ sym (hex_none c.loop-b.n (tail c.args.word.now) c.loop-b.b-index c.loop-b-test.true c.in-err-nibble.ensures.the-digit)
+      c.from_residual.ensures ∙ sym (hex_none c.loop-b.n (tail c.args.word.now) c.loop-b.b-index c.loop-b-test.true c.in_err-nibble.ensures.the_digit)
       ∙ c.loop-b.invariant.1 ∙ sym (bits_tail c.args.digits c.args.word.now c.if-word-digits.false c.if-word-ne120.false);
-  small = rw c.from-residual.ensures tt;
+  small = rw c.from_residual.ensures tt;
 }
 
-pub overflow-add-n : goal.overflow-add-n
-overflow-add-n c = record {
+pub overflow_add-n : goal.overflow_add-n
+overflow_add-n c = record {
   fits = omega (
     arith,
     c.from.ensures,
-    hex_below (get_or (tail c.args.word.now) c.loop-b.b-index 0) c.in-ok-nibble.field-0 c.in-ok-nibble.ensures.the-digit,
+    hex_below (get_or (tail c.args.word.now) c.loop-b.b-index 0) c.in_ok-nibble.field-0 c.in_ok-nibble.ensures.the_digit,
     fits_more c.loop-b.n c.loop-b.b-index c.args.digits c.args.word.now c.loop-b.invariant.0 c.loop-b-test.true c.if-word-digits.false c.requires,
   );
 }
 
 pub loop-b-preserved : goal.loop-b-preserved
 loop-b-preserved c =
-    let d = c.in-ok-nibble.ensures.the-digit in
+    let d = c.in_ok-nibble.ensures.the_digit in
     let i = c.loop-b.b-index in
     let w = tail c.args.word.now in
     let n = c.loop-b.n in (
-      omega (arith, c.from.ensures, hex_room (get_or w i 0) c.in-ok-nibble.field-0 n i d c.loop-b.invariant.0),
-      ap (λ x. hex_after (n * 16 + x) (drop (i + 1) w)) c.from.ensures ∙ sym (hex_more n w i c.loop-b-test.true c.in-ok-nibble.field-0 d) ∙ c.loop-b.invariant.1,
+      omega (arith, c.from.ensures, hex_room (get_or w i 0) c.in_ok-nibble.field-0 n i d c.loop-b.invariant.0),
+      ap (λ x. hex_after (n * 16 + x) (drop (i + 1) w)) c.from.ensures ∙ sym (hex_more n w i c.loop-b-test.true c.in_ok-nibble.field-0 d) ∙ c.loop-b.invariant.1,
     )
 
 pub returns : goal.returns

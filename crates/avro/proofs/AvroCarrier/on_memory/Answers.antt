@@ -9,4 +9,4 @@ returns c =
     let n = length c.args.bytes.now in
     let none : min 0 n ≤ min 0 (min 0 n) = omega arith in
     let zero : min 0 n ≡ 0 = omega arith in
-    record { empty = same_state _ _ (part_none (min 0 (min 0 n)) (min 0 n) c.args.bytes.now none) refl zero; keeps-both-laws = avro_laws; published-codes = published }
+    record { empty = same_state _ _ (part_none (min 0 (min 0 n)) (min 0 n) c.args.bytes.now none) refl zero; keeps_both_laws = avro_laws; published_codes = published }

@@ -3,8 +3,8 @@ use Rattle.avro.specs.Places.{take_position, write_position}
 use Rattle.avro.proofs.Ends.{gone_room, gone_fits, gone_all, gone_some}
 use Rattle.avro.proofs.AvroCarrier.skip.Goals as goal
 
-pub overflow-add-next : goal.overflow-add-next
-overflow-add-next c =
+pub overflow_add-next : goal.overflow_add-next
+overflow_add-next c =
     let s = c.args.self.now in
     let few : length s.bytes.now < 2 ^ 64 = search rules in
     let g = gone_fits s.bytes.now (take_position s) (write_position s) c.args.n 0 0 s.filling few (omega arith) (omega arith) c.requires in

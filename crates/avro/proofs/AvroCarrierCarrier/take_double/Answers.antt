@@ -5,7 +5,7 @@ use Rattle.avro.proofs.AvroCarrierCarrier.take_double.Goals as goal
 
 pub returns-in-None : goal.returns-in-None
 returns-in-None c = record {
-  fault = c.no-such-item.ensures;
-  none = none_double (state_of c.args.self.now).row (λ x rest e. c.in-None.ensures x rest (c.row.ensures.its-row ∙ e));
+  fault = c.no_such_item.ensures;
+  none = none_double (state_of c.args.self.now).row (λ x rest e. c.in-None.ensures x rest (c.row.ensures.its_row ∙ e));
   same = refl;
 }

@@ -7,8 +7,8 @@ pub returns-then-row-n : goal.returns-then-row-n
 returns-then-row-n c = (
   refl,
   record {
-    fault = c.no-such-item.ensures;
-    none = none_fixed (state_of c.args.self.now).row (length c.args.out.now) (omega (arith, ap length c.row-row.ensures.its-row, c.if-row-n.true));
+    fault = c.no_such_item.ensures;
+    none = none_fixed (state_of c.args.self.now).row (length c.args.out.now) (omega (arith, ap length c.row-row.ensures.its_row, c.if-row-n.true));
     same = refl;
   },
 )

@@ -11,7 +11,7 @@ use Rattle.avro.proofs.AvroCarrierCarrier.take_whole.Goals as goal
 use Rattle.avro.proofs.AvroCarrierCarrier.take_whole.Goals.{In-Some}
 
 found : (c : In-Some) → Read 9 (state_of c.args.self.now).row c.in-Some.n c.in-Some.k
-found c = subst (λ l. Read 9 l c.in-Some.n c.in-Some.k) c.row.ensures.its-row c.in-Some.ensures
+found c = subst (λ l. Read 9 l c.in-Some.n c.in-Some.k) c.row.ensures.its_row c.in-Some.ensures
 
 pub skip-requires : goal.skip-requires
 skip-requires c = read_inside _ _ _ (found (goal.at.skip-requires c).In-Some)
@@ -25,7 +25,7 @@ returns-in-Some c =
 
 pub returns-in-None : goal.returns-in-None
 returns-in-None c = record {
-  fault = c.no-such-item.ensures;
-  none = none_whole (state_of c.args.self.now).row (λ z rest h e. c.in-None.ensures (zig z) rest (zig_small z h) (small_64 (zig z) (zig_small z h)) (c.row.ensures.its-row ∙ e));
+  fault = c.no_such_item.ensures;
+  none = none_whole (state_of c.args.self.now).row (λ z rest h e. c.in-None.ensures (zig z) rest (zig_small z h) (small_64 (zig z) (zig_small z h)) (c.row.ensures.its_row ∙ e));
   same = refl;
 }

@@ -5,7 +5,7 @@ use Rattle.keyspace.proofs.Steps.{at_first}
 use Rattle.keyspace.proofs.index.build.Goals as goal
 
 pub loop-position-init : goal.loop-position-init
-loop-position-init g c = at_first _ _ _ _ c.clear.ensures.all-empty
+loop-position-init g c = at_first _ _ _ _ c.clear.ensures.all_empty
 
 pub loop-position-preserved : goal.loop-position-preserved
 loop-position-preserved g c = c.enter.ensures.one_more
@@ -15,7 +15,7 @@ returns g c =
     let n = length c.args.entries.now in
     let end : c.loop-position.position ≡ n = omega arith in
     record {
-      refused-exactly = sym (le-leb n (length c.args.slots.now) (omega arith));
-      refused-without-change = λ e. absurd (true≢false e);
+      refused_exactly = sym (le-leb n (length c.args.slots.now) (omega arith));
+      refused_without_change = λ e. absurd (true≢false e);
       indexed = λ _. subst (λ k. IndexOf (λ e. g.S.KeySpace.means c.args.space.now (g.E.Keyed.keyed e)) g.S.KeySpace.numberof c.args.entries.now k c.loop-position.slots) end c.loop-position.invariant;
     }

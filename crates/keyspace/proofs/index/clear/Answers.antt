@@ -13,4 +13,4 @@ loop-slot-preserved c =
 pub returns : goal.returns
 returns c =
     let slots = c.loop-slot.slots in
-    record { all-empty = λ k. ⊎_elim (λ lt. c.loop-slot.invariant k (omega arith)) (λ le. get_or_past slots k Empty (omega arith)) (cases_lt k (length slots)) }
+    record { all_empty = λ k. ⊎_elim (λ lt. c.loop-slot.invariant k (omega arith)) (λ le. get_or_past slots k Empty (omega arith)) (cases_lt k (length slots)) }

@@ -13,7 +13,7 @@ returns-in-Found g c =
     let m = g.S.KeySpace.means c.args.space.now in
     record {
       one_more = entered _ _ _ _ _ c.requires.index (m c.key.result)
-          (meets_by_key g.E.Keyed.keyed m _ _ c.index-entries-position.result _ (record { within = c.requires.entry; reads = c.index-entries-position.is }) c.key.ensures.its-key)
+          (meets_by_key g.E.Keyed.keyed m _ _ c.index-entries-position.result _ (record { within = c.requires.entry; reads = c.index-entries-position.is }) c.key.ensures.its_key)
           _ c.in-Found.ensures.ends_at;
     }
 
@@ -22,6 +22,6 @@ returns-in-Free g c =
     let m = g.S.KeySpace.means c.args.space.now in
     record {
       one_more = written_in _ _ _ _ _ c.requires.index (m c.key.result)
-          (meets_by_key g.E.Keyed.keyed m _ _ c.index-entries-position.result _ (record { within = c.requires.entry; reads = c.index-entries-position.is }) c.key.ensures.its-key)
+          (meets_by_key g.E.Keyed.keyed m _ _ c.index-entries-position.result _ (record { within = c.requires.entry; reads = c.index-entries-position.is }) c.key.ensures.its_key)
           _ _ c.in-Free.ensures.ends_at;
     }

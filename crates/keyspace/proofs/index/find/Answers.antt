@@ -4,10 +4,10 @@ use Rattle.keyspace.proofs.index.find.Goals as goal
 
 pub returns : goal.returns
 returns g c =
-    let built = c.in-ok-build.ensures in
+    let built = c.in_ok-build.ensures in
     record {
-      first-position = c.lookup.ensures.first-position (built.indexed refl);
-      refused-exactly = built.refused-exactly;
-      refused-without-change = λ e. absurd (true≢false e);
+      first_position = c.lookup.ensures.first_position (built.indexed refl);
+      refused_exactly = built.refused_exactly;
+      refused_without_change = λ e. absurd (true≢false e);
       indexed = built.indexed;
     }

@@ -12,6 +12,6 @@ loop-step-preserved g c =
     (record {
       number = c.in-Taken.other;
       entry = c.in-Taken.position;
-      slot = ap (λ a. get_or slots a Empty) (ap (λ h. walked (h % n) c.loop-step.step n) (sym c.requires.its_number) ∙ sym c.walk-from-at.ensures.is) ∙ c.in-Taken.is;
-      apart = λ e m. both_ways c.is-taken-by.result c.if-is-taken-by.false (c.is-taken-by.ensures.every-meeting (e ∙ sym c.requires.its_number) m);
+      slot = ap (λ a. get_or slots a Empty) (ap (λ h. walked (h % n) c.loop-step.step n) (sym c.requires.its_number) ∙ sym c.walk_from-at.ensures.is) ∙ c.in-Taken.is;
+      apart = λ e m. both_ways c.is_taken_by.result c.if-is_taken_by.false (c.is_taken_by.ensures.every_meeting (e ∙ sym c.requires.its_number) m);
     })

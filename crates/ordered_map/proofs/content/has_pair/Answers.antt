@@ -5,10 +5,10 @@ use Rattle.ordered_map.specs.Content.{pair_of}
 use Rattle.keyspace.proofs.Reading.{one_meaning}
 use Rattle.ordered_map.proofs.content.has_pair.Goals as goal
 
-pub returns-then-is-same-pair : goal.returns-then-is-same-pair
-returns-then-is-same-pair g c =
+pub returns-then-is_same_pair : goal.returns-then-is_same_pair
+returns-then-is_same_pair g c =
     record {
-      only-held = λ _. (c.loop-i.i, record { entry = c.index-entries-i.result; at = record { within = c.loop-i-test.true; reads = c.index-entries-i.is }; same = c.is-same-pair.ensures.only_same c.if-is-same-pair.true });
+      only_held = λ _. (c.loop-i.i, record { entry = c.index-entries-i.result; at = record { within = c.loop-i-test.true; reads = c.index-entries-i.is }; same = c.is_same_pair.ensures.only_same c.if-is_same_pair.true });
       every_held = λ _. refl;
     }
 
@@ -18,11 +18,11 @@ loop-i-preserved g c =
     let entries = c.args.entries.now in
     let e = c.index-entries-i.result in
     let here : Meets pair entries c.loop-i.i (pair e) = record { entry = e; at = record { within = c.loop-i-test.true; reads = c.index-entries-i.is }; same = refl } in
-    below_more _ _ c.loop-i.invariant (λ m. both_ways c.is-same-pair.result c.if-is-same-pair.false (c.is-same-pair.ensures.every-same (one_meaning pair entries c.loop-i.i (pair e) (pair c.args.wanted) here m)))
+    below_more _ _ c.loop-i.invariant (λ m. both_ways c.is_same_pair.result c.if-is_same_pair.false (c.is_same_pair.ensures.every_same (one_meaning pair entries c.loop-i.i (pair e) (pair c.args.wanted) here m)))
 
 pub returns : goal.returns
 returns g c =
     record {
-      only-held = λ e. absurd (false≢true e);
+      only_held = λ e. absurd (false≢true e);
       every_held = λ h. absurd (c.loop-i.invariant h.0 (omega (arith, h.1.at.within)) h.1);
     }

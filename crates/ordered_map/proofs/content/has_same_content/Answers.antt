@@ -2,20 +2,20 @@ use Rattle.std.proofs.lemmas.Bool.{both_ways}
 use Rattle.ordered_map.proofs.Laws.{same_content}
 use Rattle.ordered_map.proofs.content.has_same_content.Goals as goal
 
-pub returns-then-is-within : goal.returns-then-is-within
-returns-then-is-within g c =
-    let back = c.is-within-then-is-within.ensures in
+pub returns-then-is_within : goal.returns-then-is_within
+returns-then-is_within g c =
+    let back = c.is_within-then-is_within.ensures in
     record {
-      only-same-content = λ e. record { there = c.is-within.ensures.only-within c.if-is-within.true; back = back.only-within e };
-      every-same-content = λ s. back.every-within s.back;
-      yes-in-any-order = λ news mews d r a b. back.every-within (same_content (g.S.KeySpace.means c.args.keys.now) (g.T.KeySpace.means c.args.values.now) news mews _ _ d r a b).back;
+      only_same_content = λ e. record { there = c.is_within.ensures.only_within c.if-is_within.true; back = back.only_within e };
+      every_same_content = λ s. back.every_within s.back;
+      yes_in_any_order = λ news mews d r a b. back.every_within (same_content (g.S.KeySpace.means c.args.keys.now) (g.T.KeySpace.means c.args.values.now) news mews _ _ d r a b).back;
     }
 
-pub returns-else-is-within : goal.returns-else-is-within
-returns-else-is-within g c =
-    let there = c.is-within.ensures.every-within in
+pub returns-else-is_within : goal.returns-else-is_within
+returns-else-is_within g c =
+    let there = c.is_within.ensures.every_within in
     record {
-      only-same-content = λ e. absurd (both_ways c.is-within.result c.if-is-within.false e);
-      every-same-content = λ s. there s.there;
-      yes-in-any-order = λ news mews d r a b. there (same_content (g.S.KeySpace.means c.args.keys.now) (g.T.KeySpace.means c.args.values.now) news mews _ _ d r a b).there;
+      only_same_content = λ e. absurd (both_ways c.is_within.result c.if-is_within.false e);
+      every_same_content = λ s. there s.there;
+      yes_in_any_order = λ news mews d r a b. there (same_content (g.S.KeySpace.means c.args.keys.now) (g.T.KeySpace.means c.args.values.now) news mews _ _ d r a b).there;
     }

@@ -9,18 +9,18 @@ use Rattle.ordered_map.proofs.content.is_equal.Goals as goal
 pub returns-then-a-b : goal.returns-then-a-b
 returns-then-a-b g c =
     record {
-      only-equal = λ f. absurd (false≢true f);
-      equal-has-same-content = λ f. absurd (false≢true f);
-      every-equal = λ e. absurd (c.if-a-b.true (same_length _ c.args.a.now c.args.b.now e));
+      only_equal = λ f. absurd (false≢true f);
+      equal_has_same_content = λ f. absurd (false≢true f);
+      every_equal = λ e. absurd (c.if-a-b.true (same_length _ c.args.a.now c.args.b.now e));
     }
 
-pub returns-then-not-is-same-pair : goal.returns-then-not-is-same-pair
-returns-then-not-is-same-pair g c =
+pub returns-then-not-is_same_pair : goal.returns-then-not-is_same_pair
+returns-then-not-is_same_pair g c =
     let in-a : c.loop-i.i < length c.args.a.now = omega arith in
     record {
-      only-equal = λ f. absurd (false≢true f);
-      equal-has-same-content = λ f. absurd (false≢true f);
-      every-equal = λ e. absurd (both_ways c.is-same-pair.result c.if-not-is-same-pair.true (c.is-same-pair.ensures.every-same
+      only_equal = λ f. absurd (false≢true f);
+      equal_has_same_content = λ f. absurd (false≢true f);
+      every_equal = λ e. absurd (both_ways c.is_same_pair.result c.if-not-is_same_pair.true (c.is_same_pair.ensures.every_same
           (same_at _ c.args.a.now c.args.b.now e c.loop-i.i c.index-a-i.result c.index-b-i.result
           (record { within = in-a; reads = c.index-a-i.is }) (record { within = c.loop-i-test.true; reads = c.index-b-i.is }))));
     }
@@ -30,7 +30,7 @@ loop-i-preserved g c =
     let in-a : c.loop-i.i < length c.args.a.now = omega arith in
     same_more _ c.args.a.now c.args.b.now c.loop-i.i c.index-a-i.result c.index-b-i.result
     (record { within = in-a; reads = c.index-a-i.is }) (record { within = c.loop-i-test.true; reads = c.index-b-i.is })
-    (c.is-same-pair.ensures.only_same c.if-not-is-same-pair.false) c.loop-i.invariant
+    (c.is_same_pair.ensures.only_same c.if-not-is_same_pair.false) c.loop-i.invariant
 
 pub returns : goal.returns
 returns g c =
@@ -40,7 +40,7 @@ returns g c =
     let same : map pair a ≡ map pair b =
     sym (ap (map pair) (take_all c.loop-i.i a (omega arith))) ∙ c.loop-i.invariant ∙ ap (map pair) (take_all c.loop-i.i b (omega arith)) in
     record {
-      only-equal = λ _. same;
-      every-equal = λ _. refl;
-      equal-has-same-content = λ _. record { there = equal_within pair a b same; back = equal_within pair b a (sym same) };
+      only_equal = λ _. same;
+      every_equal = λ _. refl;
+      equal_has_same_content = λ _. record { there = equal_within pair a b same; back = equal_within pair b a (sym same) };
     }

@@ -5,15 +5,15 @@ use Rattle.ordered_map.specs.Content.{Holds, pair_of}
 use Rattle.ordered_map.proofs.Pairs.{meets_itself, means_one}
 use Rattle.ordered_map.proofs.content.is_within.Goals as goal
 
-pub returns-then-not-has-pair : goal.returns-then-not-has-pair
-returns-then-not-has-pair g c =
+pub returns-then-not-has_pair : goal.returns-then-not-has_pair
+returns-then-not-has_pair g c =
     let pair = pair_of (g.S.KeySpace.means c.args.keys.now) (g.T.KeySpace.means c.args.values.now) in
     let a = c.args.a.now in
     let e = c.index-a-i.result in
     let here : At a c.loop-i.i e = record { within = c.loop-i-test.true; reads = c.index-a-i.is } in
     record {
-      only-within = λ f. absurd (false≢true f);
-      every-within = λ w. absurd (both_ways c.has-pair.result c.if-not-has-pair.true (c.has-pair.ensures.every_held (w (pair e) (c.loop-i.i, meets_itself pair a c.loop-i.i e here))));
+      only_within = λ f. absurd (false≢true f);
+      every_within = λ w. absurd (both_ways c.has_pair.result c.if-not-has_pair.true (c.has_pair.ensures.every_held (w (pair e) (c.loop-i.i, meets_itself pair a c.loop-i.i e here))));
     }
 
 pub loop-i-preserved : goal.loop-i-preserved
@@ -23,7 +23,7 @@ loop-i-preserved g c =
     let e = c.index-a-i.result in
     let here : At a c.loop-i.i e = record { within = c.loop-i-test.true; reads = c.index-a-i.is } in
     below_more _ _ c.loop-i.invariant
-    (λ u m. subst (λ w. Holds pair c.args.b.now w) (means_one pair a c.loop-i.i e u here m) (c.has-pair.ensures.only-held c.if-not-has-pair.false))
+    (λ u m. subst (λ w. Holds pair c.args.b.now w) (means_one pair a c.loop-i.i e u here m) (c.has_pair.ensures.only_held c.if-not-has_pair.false))
 
 pub returns : goal.returns
-returns g c = record { only-within = λ _ u h. c.loop-i.invariant h.0 (omega (arith, h.1.at.within)) u h.1; every-within = λ _. refl }
+returns g c = record { only_within = λ _ u h. c.loop-i.invariant h.0 (omega (arith, h.1.at.within)) u h.1; every_within = λ _. refl }

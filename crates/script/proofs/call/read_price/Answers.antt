@@ -6,29 +6,29 @@ use Rattle.script.specs.Shapes.{and_then}
 use Rattle.script.proofs.Ones.{one_none, one_many, one_one, one_all}
 use Rattle.script.proofs.call.read_price.Goals as goal
 
-pub returns-then-is-empty : goal.returns-then-is-empty
-returns-then-is-empty c = record {
-  as-spelled =
-      let i = c.in-ok-cells.field-0 in
-      inr (ap (λ o. and_then (and_then o one) (λ d. Ok (price d))) c.in-ok-cells.ensures.as-spelled.0
-      ∙ ap (λ o. and_then o (λ d. Ok (price d))) (one_none (read (vec_items i.bytes)) (vec_items i.cells) (omega (arith, eqb-true i.cells.len 0 (sym c.if-is-empty.ensures), i.cells.ok.0))));
+pub returns-then-is_empty : goal.returns-then-is_empty
+returns-then-is_empty c = record {
+  as_spelled =
+      let i = c.in_ok-cells.field-0 in
+      inr (ap (λ o. and_then (and_then o one) (λ d. Ok (price d))) c.in_ok-cells.ensures.as_spelled.0
+      ∙ ap (λ o. and_then o (λ d. Ok (price d))) (one_none (read (vec_items i.bytes)) (vec_items i.cells) (omega (arith, eqb-true i.cells.len 0 (sym c.if-is_empty.ensures), i.cells.ok.0))));
 }
 
 pub returns-then-len-gt1 : goal.returns-then-len-gt1
 returns-then-len-gt1 c = record {
-  as-spelled =
-      let i = c.in-ok-cells.field-0 in
-      inr (ap (λ o. and_then (and_then o one) (λ d. Ok (price d))) c.in-ok-cells.ensures.as-spelled.0
+  as_spelled =
+      let i = c.in_ok-cells.field-0 in
+      inr (ap (λ o. and_then (and_then o one) (λ d. Ok (price d))) c.in_ok-cells.ensures.as_spelled.0
       ∙ ap (λ o. and_then o (λ d. Ok (price d))) (one_many (read (vec_items i.bytes)) (vec_items i.cells) (omega (arith, i.cells.ok.0))));
 }
 
 pub returns : goal.returns
 returns c = record {
-  as-spelled =
-      let i = c.in-ok-cells.field-0 in
-      let single : length (vec_items i.cells) ≡ 1 = omega (arith, eqb-false i.cells.len 0 (sym c.if-is-empty.ensures), i.cells.ok.0) in (
-        ap (λ o. and_then (and_then o one) (λ d. Ok (price d))) c.in-ok-cells.ensures.as-spelled.0
+  as_spelled =
+      let i = c.in_ok-cells.field-0 in
+      let single : length (vec_items i.cells) ≡ 1 = omega (arith, eqb-false i.cells.len 0 (sym c.if-is_empty.ensures), i.cells.ok.0) in (
+        ap (λ o. and_then (and_then o one) (λ d. Ok (price d))) c.in_ok-cells.ensures.as_spelled.0
             ∙ ap (λ o. and_then o (λ d. Ok (price d))) (one_one (read (vec_items i.bytes)) (vec_items i.cells) c.index.result.now single c.index.ensures),
-        one_all (Below (length (vec_items i.bytes))) (vec_items i.cells) c.index.result.now single c.index.ensures c.in-ok-cells.ensures.as-spelled.1,
+        one_all (Below (length (vec_items i.bytes))) (vec_items i.cells) c.index.result.now single c.index.ensures c.in_ok-cells.ensures.as_spelled.1,
       );
 }

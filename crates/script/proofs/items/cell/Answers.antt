@@ -6,18 +6,18 @@ use Rattle.script.specs.Nouns.{item_of}
 use Rattle.script.proofs.Laid.{grown_same}
 use Rattle.script.proofs.items.cell.Goals as goal
 
-pub returns-in-ok-truth : goal.returns-in-ok-truth
-returns-in-ok-truth c = record { laid = (search rules, tt, grown_same _) }
+pub returns-in_ok-truth : goal.returns-in_ok-truth
+returns-in_ok-truth c = record { laid = (search rules, tt, grown_same _) }
 
-pub returns-in-ok-whole : goal.returns-in-ok-whole
-returns-in-ok-whole c =
-    let z = c.in-ok-whole.field-0 in
+pub returns-in_ok-whole : goal.returns-in_ok-whole
+returns-in_ok-whole c =
+    let z = c.in_ok-whole.field-0 in
     let fits : SFits w64 z = search rules in
     let e : item_of (couple c.args.pair) ≡ Ok (whole z) = search rules in
     record { laid = (e ∙ ap (λ y. Ok (whole y)) (sym (to_z-of_z w64 z fits)), tt, grown_same _) }
 
-pub returns-in-ok-single : goal.returns-in-ok-single
-returns-in-ok-single c = record { laid = (search rules, tt, grown_same _) }
+pub returns-in_ok-single : goal.returns-in_ok-single
+returns-in_ok-single c = record { laid = (search rules, tt, grown_same _) }
 
-pub returns-in-ok-double : goal.returns-in-ok-double
-returns-in-ok-double c = record { laid = (search rules, tt, grown_same _) }
+pub returns-in_ok-double : goal.returns-in_ok-double
+returns-in_ok-double c = record { laid = (search rules, tt, grown_same _) }

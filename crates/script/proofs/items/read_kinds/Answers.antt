@@ -8,43 +8,43 @@ use Rattle.script.proofs.Listing.{behind_none, behind_more, behind_err, behind_e
 use Rattle.script.proofs.items.read_kinds.Goals as goal
 
 pub returns-in-End : goal.returns-in-End
-returns-in-End c = record { as-spelled = behind_every _ _ _ c.loop-all.invariant (step_end NotAKind kind_named kind_of _ c.in-End.ensures.cut_off.0) }
+returns-in-End c = record { as_spelled = behind_every _ _ _ c.loop-all.invariant (step_end NotAKind kind_named kind_of _ c.in-End.ensures.cut_off.0) }
 
-pub returns-in-err-pair : goal.returns-in-err-pair
-returns-in-err-pair c = record {
-  as-spelled =
-      let p = err_from_is_err_and c.from-residual.result c.from-residual.ensures.1 in
-      rw (p.1, p.2) (inr (behind_err _ _ _ _ c.loop-all.invariant (step_no_pair NotAKind kind_named kind_of _ _ c.in-Open.ensures.cut_off _ c.in-err-pair.ensures.the-pair)));
+pub returns-in_err-pair : goal.returns-in_err-pair
+returns-in_err-pair c = record {
+  as_spelled =
+      let p = err_from_is_err_and c.from_residual.result c.from_residual.ensures.1 in
+      rw (p.1, p.2) (inr (behind_err _ _ _ _ c.loop-all.invariant (step_no_pair NotAKind kind_named kind_of _ _ c.in-Open.ensures.cut_off _ c.in_err-pair.ensures.the_pair)));
 }
 
-pub returns-in-err-sized-kind : goal.returns-in-err-sized-kind
-returns-in-err-sized-kind c = record {
-  as-spelled =
-      let p = err_from_is_err_and c.from-residual-in-err-sized-kind.result c.from-residual-in-err-sized-kind.ensures.1 in
-      rw (p.1, p.2) (inr (behind_err _ _ _ _ c.loop-all.invariant (step_bad_pair NotAKind kind_named kind_of _ _ c.in-Open.ensures.cut_off _ _ c.in-ok-pair.ensures.the-pair _ (sym c.in-err-sized-kind.ensures.the-kind))));
+pub returns-in_err-sized_kind : goal.returns-in_err-sized_kind
+returns-in_err-sized_kind c = record {
+  as_spelled =
+      let p = err_from_is_err_and c.from_residual-in_err-sized_kind.result c.from_residual-in_err-sized_kind.ensures.1 in
+      rw (p.1, p.2) (inr (behind_err _ _ _ _ c.loop-all.invariant (step_bad_pair NotAKind kind_named kind_of _ _ c.in-Open.ensures.cut_off _ _ c.in_ok-pair.ensures.the_pair _ (sym c.in_err-sized_kind.ensures.the_kind))));
 }
 
-pub loop-all-smaller-in-ok-push : goal.loop-all-smaller-in-ok-push
-loop-all-smaller-in-ok-push c = step_falls NotAKind kind_named kind_of _ _ c.in-Open.ensures.cut_off _ _ c.in-ok-pair.ensures.the-pair
+pub loop-all-smaller-in_ok-push : goal.loop-all-smaller-in_ok-push
+loop-all-smaller-in_ok-push c = step_falls NotAKind kind_named kind_of _ _ c.in-Open.ensures.cut_off _ _ c.in_ok-pair.ensures.the_pair
 
-pub loop-all-preserved-in-ok-push : goal.loop-all-preserved-in-ok-push
-loop-all-preserved-in-ok-push c =
-    ap (λ l. behind l (kinds_of (left c.pair.new.self))) c.in-ok-push.ensures.items
-    ∙ behind_more (vec_items c.loop-all.all) c.in-ok-sized-kind.field-0 _ _ (kinds_of (left c.pair.new.self)) c.loop-all.invariant
-    (step_pair NotAKind kind_named kind_of _ _ c.in-Open.ensures.cut_off _ _ c.in-ok-pair.ensures.the-pair _ (sym c.in-ok-sized-kind.ensures.the-kind))
+pub loop-all-preserved-in_ok-push : goal.loop-all-preserved-in_ok-push
+loop-all-preserved-in_ok-push c =
+    ap (λ l. behind l (kinds_of (left c.pair.new.self))) c.in_ok-push.ensures.items
+    ∙ behind_more (vec_items c.loop-all.all) c.in_ok-sized_kind.field-0 _ _ (kinds_of (left c.pair.new.self)) c.loop-all.invariant
+    (step_pair NotAKind kind_named kind_of _ _ c.in-Open.ensures.cut_off _ _ c.in_ok-pair.ensures.the_pair _ (sym c.in_ok-sized_kind.ensures.the_kind))
 
 pub returns-in-Close : goal.returns-in-Close
-returns-in-Close c = record { as-spelled = inr (behind_err _ _ _ _ c.loop-all.invariant (step_close NotAKind kind_named kind_of _ _ c.in-Close.ensures.cut_off)) }
+returns-in-Close c = record { as_spelled = inr (behind_err _ _ _ _ c.loop-all.invariant (step_close NotAKind kind_named kind_of _ _ c.in-Close.ensures.cut_off)) }
 
-pub returns-in-err-plain-kind : goal.returns-in-err-plain-kind
-returns-in-err-plain-kind c = record {
-  as-spelled =
-      let p = err_from_is_err_and c.from-residual-in-err-plain-kind.result c.from-residual-in-err-plain-kind.ensures.1 in
-      rw (p.1, p.2) (inr (behind_err _ _ _ _ c.loop-all.invariant (step_bad_word NotAKind kind_named kind_of _ _ _ _ c.in-Word.ensures.cut_off (sym c.in-err-plain-kind.ensures.the-kind))));
+pub returns-in_err-plain_kind : goal.returns-in_err-plain_kind
+returns-in_err-plain_kind c = record {
+  as_spelled =
+      let p = err_from_is_err_and c.from_residual-in_err-plain_kind.result c.from_residual-in_err-plain_kind.ensures.1 in
+      rw (p.1, p.2) (inr (behind_err _ _ _ _ c.loop-all.invariant (step_bad_word NotAKind kind_named kind_of _ _ _ _ c.in-Word.ensures.cut_off (sym c.in_err-plain_kind.ensures.the_kind))));
 }
 
 pub loop-all-preserved : goal.loop-all-preserved
 loop-all-preserved c =
-    ap (λ l. behind l (kinds_of (left c.next.new.self))) c.in-ok-push-2.ensures.items
-    ∙ behind_more (vec_items c.loop-all.all) c.in-ok-plain-kind.field-0 _ _ (kinds_of (left c.next.new.self)) c.loop-all.invariant
-    (step_word NotAKind kind_named kind_of _ _ _ _ c.in-Word.ensures.cut_off (sym c.in-ok-plain-kind.ensures.the-kind))
+    ap (λ l. behind l (kinds_of (left c.next.new.self))) c.in_ok-push-2.ensures.items
+    ∙ behind_more (vec_items c.loop-all.all) c.in_ok-plain_kind.field-0 _ _ (kinds_of (left c.next.new.self)) c.loop-all.invariant
+    (step_word NotAKind kind_named kind_of _ _ _ _ c.in-Word.ensures.cut_off (sym c.in_ok-plain_kind.ensures.the_kind))

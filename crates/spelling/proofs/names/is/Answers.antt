@@ -7,5 +7,5 @@ use Rattle.spelling.proofs.names.is.Goals as goal
 pub returns : goal.returns
 returns c = record {
   compared =
-      same_from_decides c.eq.result _ (slice_eq-Decides Decides-eqb _ _ _ c.eq.ensures) (bytes_eq-Decides _ _) ∙ ap (bytes_eq c.args.word.now) c.as-bytes.ensures.value;
+      same_from_decides c.eq.result _ (slice_eq-Decides Decides-eqb _ _ _ c.eq.ensures) (bytes_eq-Decides _ _) ∙ ap (bytes_eq c.args.word.now) c.as_bytes.ensures.value;
 }

@@ -11,16 +11,16 @@ pub returns-in-Some-natural : goal.returns-in-Some-natural
 returns-in-Some-natural c = record {
   spelled =
       let w = c.args.word.now in
-      let some : 0 < length w = omega (arith, eqb-false (length w) 0 (sym c.if-is-empty.ensures)) in
+      let some : 0 < length w = omega (arith, eqb-false (length w) 0 (sym c.if-is_empty.ensures)) in
       let o = c.in-Some-natural.ensures.spelled ∙ ap (λ l. under (2 ^ 64) (decimal_of l)) (take_rest w 1) in
-      c.ok-or.ensures.value ∙ ap (λ o. ok_or o NotANumber) (c.negated.ensures.turned ∙ sym (minus_some (decimal_of (drop 1 w)) c.in-Some-natural.n o) ∙ sym (minus_word w some c.if-word-ne45.false));
+      c.ok_or.ensures.value ∙ ap (λ o. ok_or o NotANumber) (c.negated.ensures.turned ∙ sym (minus_some (decimal_of (drop 1 w)) c.in-Some-natural.n o) ∙ sym (minus_word w some c.if-word-ne45.false));
 }
 
 pub returns-in-None-natural : goal.returns-in-None-natural
 returns-in-None-natural c = record {
   spelled =
       let w = c.args.word.now in
-      let some : 0 < length w = omega (arith, eqb-false (length w) 0 (sym c.if-is-empty.ensures)) in
+      let some : 0 < length w = omega (arith, eqb-false (length w) 0 (sym c.if-is_empty.ensures)) in
       let o = c.in-None-natural.ensures.spelled ∙ ap (λ l. under (2 ^ 64) (decimal_of l)) (take_rest w 1) in
       ap (λ o. ok_or o NotANumber) (sym (minus_none (decimal_of (drop 1 w)) o) ∙ sym (minus_word w some c.if-word-ne45.false));
 }

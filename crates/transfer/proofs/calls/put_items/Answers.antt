@@ -18,7 +18,7 @@ returns-then-p-left g c =
     let i = c.loop-x.x-index in
     let h = c.loop-x-test.true in
     let u = price_under g.C.Carrier.code (map datum xs) i (at xs i h) (at_in xs i h) (at_is xs i h) in
-    record { all-or-none = (refl, record { over = omega (arith, c.price-p.ensures, u); same = refl }) }
+    record { all_or_none = (refl, record { over = omega (arith, c.price-p.ensures, u); same = refl }) }
 
 pub loop-x-preserved : goal.loop-x-preserved
 loop-x-preserved g c =
@@ -26,7 +26,7 @@ loop-x-preserved g c =
     let i = c.loop-x.x-index in
     let h = c.loop-x-test.true in
     let m = price_more g.C.Carrier.code (map datum xs) i (at xs i h) (at_in xs i h) (at_is xs i h) in
-    (omega (arith, c.price-p.ensures, m), all_more Held (map datum xs) i (at xs i h) (at_in xs i h) c.loop-x.invariant.1 (subst Held (sym (at_is xs i h)) c.item-held.ensures.held))
+    (omega (arith, c.price-p.ensures, m), all_more Held (map datum xs) i (at xs i h) (at_in xs i h) c.loop-x.invariant.1 (subst Held (sym (at_is xs i h)) c.item_held.ensures.held))
 
 pub loop-y-init : goal.loop-y-init
 loop-y-init g c =
@@ -35,19 +35,19 @@ loop-y-init g c =
     let e = ap (λ l. length (codes g.C.Carrier.code l)) (take_all i (map datum xs) (past xs i c.loop-x-test.false)) in
     sofar_none g.C.Carrier.code (map datum xs) (g.C.Carrier.state c.args.c.now) (omega (arith, e, c.room-room.ensures))
 
-pub returns-in-err-put : goal.returns-in-err-put
-returns-in-err-put g c =
+pub returns-in_err-put : goal.returns-in_err-put
+returns-in_err-put g c =
     let xs = c.args.items.now in
     let i = c.loop-y.y-index in
     let h = c.loop-y-test.true in
-    absurd (sofar_fits g.C.Carrier.code (map datum xs) i (at xs i h) (at_in xs i h) (at_is xs i h) _ _ _ c.loop-y.invariant c.in-err-put.ensures.1)
+    absurd (sofar_fits g.C.Carrier.code (map datum xs) i (at xs i h) (at_in xs i h) (at_is xs i h) _ _ _ c.loop-y.invariant c.in_err-put.ensures.1)
 
 pub loop-y-preserved : goal.loop-y-preserved
 loop-y-preserved g c =
     let xs = c.args.items.now in
     let i = c.loop-y.y-index in
     let h = c.loop-y-test.true in
-    sofar_more g.C.Carrier.code (map datum xs) i (at xs i h) (at_in xs i h) (at_is xs i h) _ _ _ c.loop-y.invariant c.in-ok-put.ensures
+    sofar_more g.C.Carrier.code (map datum xs) i (at xs i h) (at_in xs i h) (at_is xs i h) _ _ _ c.loop-y.invariant c.in_ok-put.ensures
 
 pub returns : goal.returns
 returns g c =
@@ -56,4 +56,4 @@ returns g c =
     let j = c.loop-y.y-index in
     let k = past xs i c.loop-x-test.false in
     let e = ap (λ l. length (codes g.C.Carrier.code l)) (take_all i (map datum xs) k) in
-    record { all-or-none = (omega (arith, e), all_all Held (map datum xs) i k c.loop-x.invariant.1, sofar_all g.C.Carrier.code (map datum xs) j _ _ (past xs j c.loop-y-test.false) c.loop-y.invariant) }
+    record { all_or_none = (omega (arith, e), all_all Held (map datum xs) i k c.loop-x.invariant.1, sofar_all g.C.Carrier.code (map datum xs) j _ _ (past xs j c.loop-y-test.false) c.loop-y.invariant) }

@@ -7,8 +7,8 @@ pub returns : goal.returns
 returns c =
     let end = min 0 (length c.args.words.now) in
     record {
-      row-is-empty = between_none (min 0 end) end c.args.words.now (omega arith);
-      capacity-is-the-memory = refl;
-      count-is-zero = omega arith;
-      code-keeps-the-laws = word_laws;
+      row_is_empty = between_none (min 0 end) end c.args.words.now (omega arith);
+      capacity_is_the_memory = refl;
+      count_is_zero = omega arith;
+      code_keeps_the_laws = word_laws;
     }

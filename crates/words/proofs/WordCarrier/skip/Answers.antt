@@ -11,11 +11,11 @@ few c =
     let l = row_long w.take_at w.write_at p.result.0 p.result.1 w.words.now p.ensures.start p.ensures.end in
     omega (arith, c.requires)
 
-pub overflow-add-from : goal.overflow-add-from
-overflow-add-from c = let h = few c in search rules
+pub overflow_add-from : goal.overflow_add-from
+overflow_add-from c = let h = few c in search rules
 
-pub overflow-add-self : goal.overflow-add-self
-overflow-add-self c = let h = few (goal.at.overflow-add-self c).After-places-from in search rules
+pub overflow_add-self : goal.overflow_add-self
+overflow_add-self c = let h = few (goal.at.overflow_add-self c).After-places-from in search rules
 
 pub returns-then-from-n : goal.returns-then-from-n
 returns-then-from-n c =

@@ -10,4 +10,4 @@ returns c =
     let p = c.places-from in
     let n = c.price-n.result in
     grown w.take_at w.write_at p.result.0 p.result.1 w.words.now p.ensures.start p.ensures.end
-    n _ (word_code (datum c.args.item)) c.write-code.new.out (omega (arith, c.if-n-room.false, c.room.ensures, p.ensures.end)) (omega arith) (sym c.price-n.ensures) c.write-code.ensures
+    n _ (word_code (datum c.args.item)) c.write_code.new.out (omega (arith, c.if-n-room.false, c.room.ensures, p.ensures.end)) (omega arith) (sym c.price-n.ensures) c.write_code.ensures

@@ -17,4 +17,4 @@ returns c =
     let row = c.args.row.now in
     let tail = between 1 (length row) row in
     let e = first_rest row 0 c.if-row-lt1.false ∙ ap (λ n. n ∷ tail) c.if-row-ne-FIXED.false in
-    finds_fixed row c.args.len tail c.find-bytes.result (omega arith) e c.find-bytes.ensures
+    finds_fixed row c.args.len tail c.find_bytes.result (omega arith) e c.find_bytes.ensures

@@ -4,10 +4,10 @@ use Rattle.carrier.specs.declared.Kind.TheVariants.{Truth}
 use Rattle.words.proofs.Fronts.{none_behind, stands_pair, bit_code}
 use Rattle.words.proofs.finding.find_truth.Goals as goal
 
-pub returns-in-err-word : goal.returns-in-err-word
-returns-in-err-word c = rw c.from-residual.ensures (none_behind Truth c.args.row.now (omega arith) c.in-err-word.ensures)
+pub returns-in_err-word : goal.returns-in_err-word
+returns-in_err-word c = rw c.from_residual.ensures (none_behind Truth c.args.row.now (omega arith) c.in_err-word.ensures)
 
 pub returns-then-word-lt2 : goal.returns-then-word-lt2
 returns-then-word-lt2 c =
-    let w = c.in-ok-word.word in
-    stands_pair Truth (truth (eqb w 1)) 0 w c.args.row.now a_truth tt (bit_code w c.if-word-lt2.true) c.in-ok-word.ensures.1
+    let w = c.in_ok-word.word in
+    stands_pair Truth (truth (eqb w 1)) 0 w c.args.row.now a_truth tt (bit_code w c.if-word-lt2.true) c.in_ok-word.ensures.1

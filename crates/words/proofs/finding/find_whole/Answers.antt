@@ -3,11 +3,11 @@ use Rattle.carrier.specs.declared.Kind.TheVariants.{Whole}
 use Rattle.words.proofs.Fronts.{none_behind, stands_whole}
 use Rattle.words.proofs.finding.find_whole.Goals as goal
 
-pub returns-in-err-word : goal.returns-in-err-word
-returns-in-err-word c = rw c.from-residual.ensures (none_behind Whole c.args.row.now (omega arith) c.in-err-word.ensures)
+pub returns-in_err-word : goal.returns-in_err-word
+returns-in_err-word c = rw c.from_residual.ensures (none_behind Whole c.args.row.now (omega arith) c.in_err-word.ensures)
 
 pub returns : goal.returns
 returns c =
-    let h = c.in-ok-word.ensures in
-    let fits : SFits w64 c.cast-signed.result = search rules in
-    stands_whole c.in-ok-word.word c.cast-signed.result c.args.row.now h.0 fits c.cast-signed.ensures h.1
+    let h = c.in_ok-word.ensures in
+    let fits : SFits w64 c.cast_signed.result = search rules in
+    stands_whole c.in_ok-word.word c.cast_signed.result c.args.row.now h.0 fits c.cast_signed.ensures h.1

@@ -17,11 +17,11 @@ returns-in-Found g c =
     let w = c.replace.ensures in
     record {
       inserted = λ _. replaced means numberof m n new c.in-Found.place found c.replace.result w.written w.slots w.len;
-      one-insertion-more = λ _ _ news a. (entries_of m, (a, inl (c.replace.result, replaced means numberof m n new c.in-Found.place found c.replace.result w.written w.slots w.len)));
-      still-a-map = replaced_map means numberof m n new c.in-Found.place found c.replace.result w.written w.slots w.len;
-      in-order-of-first-insertion = λ news a. in_order _ news _ a;
-      refused-without-change = λ e. absurd (true≢false e);
-      same-room = replaced_room means numberof m n new c.in-Found.place found c.replace.result w.written w.slots w.len;
+      one_insertion_more = λ _ _ news a. (entries_of m, (a, inl (c.replace.result, replaced means numberof m n new c.in-Found.place found c.replace.result w.written w.slots w.len)));
+      still_a_map = replaced_map means numberof m n new c.in-Found.place found c.replace.result w.written w.slots w.len;
+      in_order_of_first_insertion = λ news a. in_order _ news _ a;
+      refused_without_change = λ e. absurd (true≢false e);
+      same_room = replaced_room means numberof m n new c.in-Found.place found c.replace.result w.written w.slots w.len;
     }
 
 pub returns-in-Free : goal.returns-in-Free
@@ -37,11 +37,11 @@ returns-in-Free g c =
     let free = c.in-Free.ensures.ends_at in
     record {
       inserted = appended means numberof m n new c.in-Free.at number w.entries w.slots w.len room free;
-      one-insertion-more = λ is _ news a. (entries_of m, (a, inr (appended means numberof m n new c.in-Free.at number w.entries w.slots w.len room free is).0));
-      still-a-map = λ is. appended_map means numberof m n new c.in-Free.at number w.entries w.slots w.len room free is;
-      in-order-of-first-insertion = λ news a. in_order _ news _ a;
-      refused-without-change = λ e. absurd (true≢false e);
-      same-room = appended_room means numberof m n new c.in-Free.at number w.entries w.slots w.len;
+      one_insertion_more = λ is _ news a. (entries_of m, (a, inr (appended means numberof m n new c.in-Free.at number w.entries w.slots w.len room free is).0));
+      still_a_map = λ is. appended_map means numberof m n new c.in-Free.at number w.entries w.slots w.len room free is;
+      in_order_of_first_insertion = λ news a. in_order _ news _ a;
+      refused_without_change = λ e. absurd (true≢false e);
+      same_room = appended_room means numberof m n new c.in-Free.at number w.entries w.slots w.len;
     }
 
 pub returns-in-Free-2 : goal.returns-in-Free-2
@@ -51,11 +51,11 @@ returns-in-Free-2 g c =
     let full : capacity_of m ≤ m.len = omega (arith, c.capacity.ensures.least) in
     record {
       inserted = λ is. refused_by_free _ _ m new is _ _ c.in-Free-2.ensures.ends_at full;
-      still-a-map = λ is. is;
-      one-insertion-more = λ _ e. absurd (false≢true e);
-      in-order-of-first-insertion = λ news a. in_order _ news _ a;
-      refused-without-change = λ _. record { entries = refl; slots = refl; len = refl };
-      same-room = refl;
+      still_a_map = λ is. is;
+      one_insertion_more = λ _ e. absurd (false≢true e);
+      in_order_of_first_insertion = λ news a. in_order _ news _ a;
+      refused_without_change = λ _. record { entries = refl; slots = refl; len = refl };
+      same_room = refl;
     }
 
 pub returns-in-Full : goal.returns-in-Full
@@ -63,9 +63,9 @@ returns-in-Full g c =
     let new : Entry g.row.K.Denot g.row.V.Denot = record { key = c.args.key; value = c.args.value } in
     record {
       inserted = λ is. refused_by_full _ _ c.args.self.now new is c.in-Full.ensures.ends_at;
-      still-a-map = λ is. is;
-      one-insertion-more = λ _ e. absurd (false≢true e);
-      in-order-of-first-insertion = λ news a. in_order _ news _ a;
-      refused-without-change = λ _. record { entries = refl; slots = refl; len = refl };
-      same-room = refl;
+      still_a_map = λ is. is;
+      one_insertion_more = λ _ e. absurd (false≢true e);
+      in_order_of_first_insertion = λ news a. in_order _ news _ a;
+      refused_without_change = λ _. record { entries = refl; slots = refl; len = refl };
+      same_room = refl;
     }

@@ -8,8 +8,8 @@ returns g c =
     record {
       no_keys = refl;
       room = ap (min (length c.args.entries.now)) c.build.auto.slots;
-      is-map = record {
+      is_map = record {
         distinct = λ p q v a b. absurd (omega (arith, a.at.within));
-        index = c.build.ensures.indexed (c.build.ensures.refused-exactly ∙ le-leb 0 n (omega arith));
+        index = c.build.ensures.indexed (c.build.ensures.refused_exactly ∙ le-leb 0 n (omega arith));
       };
     }
