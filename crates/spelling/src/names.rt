@@ -29,7 +29,7 @@ pub fn is(word: &[u8], name: &str) -> bool
 
 /// The first of them that goes by the word.
 pub fn pick<T: Named + Copy>(word: &[u8], all: &[T]) -> Option<T>
-    ensures first_so_called { result ≡ lookup called word.now all.now }
+    ensures first_so_called { result ≡ lookup T.called word.now all.now }
 {
     for x in all {
         if is(word, x.name()) {

@@ -13,7 +13,7 @@ use refusal::Refusal;
 /// Puts all of the items, or none where their price exceeds the room. Answers how many numbers that
 /// added.
 pub fn put_items<C: Carrier>(c: &mut C, items: &[Item]) -> Result<u64, CarrierFault>
-    ensures all_or_none { PutsAll code (map datum items.now) result (state c.old) (state c.new) }
+    ensures all_or_none { PutsAll C.code (map datum items.now) result (C.state c.old) (C.state c.new) }
 {
     let room = c.room();
     let mut left = room;
@@ -43,7 +43,7 @@ fn take_one<C: Carrier>(
     taken: u64,
 ) -> Result<Cell, CarrierFault>
     requires { used ≤ length bytes.old }
-    ensures { TakesOne code kind used taken result bytes.old bytes.new (state c.old) (state c.new) }
+    ensures { TakesOne C.code kind used taken result bytes.old bytes.new (C.state c.old) (C.state c.new) }
 {
     match kind {
         Kind::Truth => Ok(Cell::Truth(c.take_truth(taken)?)),
@@ -76,8 +76,8 @@ pub fn take_items<C: Carrier>(
     cells: &mut [Cell],
     bytes: &mut [u8],
 ) -> Result<Taking, CarrierFault>
-    ensures one_after_another { TakesAll code kinds.now result cells.old cells.new bytes.old bytes.new (state c.old) (state c.new) }
-    ensures comes_back { ComesBack code kinds.now result cells.old cells.new bytes.old bytes.new (state c.old) (state c.new) }
+    ensures one_after_another { TakesAll C.code kinds.now result cells.old cells.new bytes.old bytes.new (C.state c.old) (C.state c.new) }
+    ensures comes_back { ComesBack C.code kinds.now result cells.old cells.new bytes.old bytes.new (C.state c.old) (C.state c.new) }
 {
     let mut used = 0;
     let mut numbers = 0;

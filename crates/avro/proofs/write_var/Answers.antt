@@ -1,9 +1,9 @@
 use Rattle.std.proofs.Common.{◌≡◌, ◌<◌, length, refl, arith}
 use Rattle.avro.proofs.Groups.{writing_room, writing_more, written_size, written_all}
 use Rattle.avro.proofs.write_var.Goals as goal
-use Rattle.avro.proofs.write_var.Goals.{At-loop-false}
+use Rattle.avro.proofs.write_var.Goals.{At-loop-left}
 
-room : (c : At-loop-false) → c.loop-left.at < length c.loop-left.out
+room : (c : At-loop-left) → c.loop-left.at < length c.loop-left.out
 room c = omega (arith, writing_room _ _ _ _ _ c.loop-left.invariant c.requires, c.loop-left.auto.out)
 
 pub bounds-out-at : goal.bounds-out-at

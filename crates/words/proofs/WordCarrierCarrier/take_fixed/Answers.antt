@@ -6,7 +6,7 @@ use Rattle.words.specs.States.{state_of}
 use Rattle.words.proofs.WordCarrierCarrier.take_fixed.Goals as goal
 
 pub copy_bytes-requires : goal.copy_bytes-requires
-copy_bytes-requires c = let h = c.in-Some.ensures in (sym (fixed_long h.of), h.held.1)
+copy_bytes-requires c = let h = c.in-Some.ensures in record { out_len = sym (fixed_long h.of); bytes = h.held.1 }
 
 pub skip-requires : goal.skip-requires
 skip-requires c =

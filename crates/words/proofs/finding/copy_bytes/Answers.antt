@@ -4,7 +4,7 @@ use Rattle.words.proofs.Fronts.{byte_at}
 use Rattle.words.proofs.finding.copy_bytes.Goals as goal
 
 pub overflow_cast-out : goal.overflow_cast-out
-overflow_cast-out c = let b = byte_at c.args.words.now c.loop-i.i c.loop-i-test.true c.requires.1 in search rules
+overflow_cast-out c = let b = byte_at c.args.words.now c.loop-i.i c.loop-i-test.true c.requires.bytes in search rules
 
 pub loop-i-preserved : goal.loop-i-preserved
 loop-i-preserved c = copied_more c.loop-i.out c.args.words.now c.loop-i.i c.loop-i.invariant (omega arith) c.loop-i-test.true
