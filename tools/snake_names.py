@@ -12,7 +12,7 @@ import os
 import re
 import sys
 
-TOKEN = re.compile(r'"(?:\\.|[^"\\])*"|--.*|//.*|[^\s(){}\[\].,;:"|=]+')
+TOKEN = re.compile(r'b?\'\\?.\'|"(?:\\.|[^"\\])*"|--.*|//.*|[^\s(){}\[\].,;:"|=]+')
 DECLARED = re.compile(r"^(\s*)((?:(?:abbrev|opaque|unfoldable|pub|instance)\s+)*)([a-z][^\s:(){},.=|λ→]*)((?:\s+[^\s:=]+)*)\s*:\s+(.*)$")
 GHOST = re.compile(r"\bghost\s+(?!use\b|invariant\b|const\b|fn\b)([a-z]\w*)")
 

@@ -95,7 +95,7 @@ pub fn is_shown(b: u8) -> bool
 
 /// The byte that an escape spells, its backslash standing first.
 fn escape(rest: &[u8]) -> Option<u8>
-    ensures spelled { result ≡ escapeOf rest.now }
+    ensures spelled { result ≡ escape_of rest.now }
 {
     if rest.len() < 4 || rest[1] != b'x' {
         return None;
