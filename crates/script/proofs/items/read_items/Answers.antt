@@ -15,39 +15,39 @@ use Rattle.script.proofs.items.read_items.Goals as goal
 pub returns-in-End : goal.returns-in-End
 returns-in-End c = record { as_spelled = (behind_every _ _ _ c.loop-cells.invariant.1 (step_end NotAnItem (λ _. Err NotAnItem) item_of _ c.in-End.ensures.cut_off.0), c.loop-cells.invariant.0) }
 
-pub returns-in_err-pair : goal.returns-in_err-pair
-returns-in_err-pair c = record {
+pub returns-in_err-pair-in-Open : goal.returns-in_err-pair-in-Open
+returns-in_err-pair-in-Open c = record {
   as_spelled =
       let p = err_from_is_err_and c.from_residual.result c.from_residual.ensures.1 in
-      rw (p.1, p.2) (inr (behind_err _ _ _ _ c.loop-cells.invariant.1 (step_no_pair NotAnItem (λ _. Err NotAnItem) item_of _ _ c.in-Open.ensures.cut_off _ c.in_err-pair.ensures.the_pair)));
+      rw (p.1, p.2) (inr (behind_err _ _ _ _ c.loop-cells.invariant.1 (step_no_pair NotAnItem (λ _. Err NotAnItem) item_of _ _ c.in-Open.ensures.cut_off _ c.in_err-pair-in-Open.ensures.the_pair)));
 }
 
-pub returns-in_err-laid : goal.returns-in_err-laid
-returns-in_err-laid c = record {
+pub returns-in_err-laid-in-Open : goal.returns-in_err-laid-in-Open
+returns-in_err-laid-in-Open c = record {
   as_spelled =
-      let p = err_from_is_err_and c.from_residual-in_err-laid.result c.from_residual-in_err-laid.ensures.1 in
-      rw (p.1, p.2) (elim c.in_err-laid.ensures.laid [
+      let p = err_from_is_err_and c.from_residual-in_err-laid-in-Open.result c.from_residual-in_err-laid-in-Open.ensures.1 in
+      rw (p.1, p.2) (elim c.in_err-laid-in-Open.ensures.laid [
         | inl m ↦ inl m
-        | inr x ↦ inr (behind_err _ _ _ _ c.loop-cells.invariant.1 (step_bad_pair NotAnItem (λ _. Err NotAnItem) item_of _ _ c.in-Open.ensures.cut_off _ _ c.in_ok-pair.ensures.the_pair _ x))
+        | inr x ↦ inr (behind_err _ _ _ _ c.loop-cells.invariant.1 (step_bad_pair NotAnItem (λ _. Err NotAnItem) item_of _ _ c.in-Open.ensures.cut_off _ _ c.in_ok-pair-in-Open.ensures.the_pair _ x))
       ]);
 }
 
 pub loop-cells-smaller : goal.loop-cells-smaller
-loop-cells-smaller c = step_falls NotAnItem (λ _. Err NotAnItem) item_of _ _ c.in-Open.ensures.cut_off _ _ c.in_ok-pair.ensures.the_pair
+loop-cells-smaller c = step_falls NotAnItem (λ _. Err NotAnItem) item_of _ _ c.in-Open.ensures.cut_off _ _ c.in_ok-pair-in-Open.ensures.the_pair
 
 pub loop-cells-preserved : goal.loop-cells-preserved
 loop-cells-preserved c =
     let before = vec_items c.loop-cells.bytes in
     let after = vec_items c.cell.new.bytes in
     let cells = vec_items c.loop-cells.cells in
-    let x = c.in_ok-laid.laid in
-    let l = c.in_ok-laid.ensures.laid in
-    let e = c.in_ok-push.ensures.items in
+    let x = c.in_ok-laid-in-Open.laid in
+    let l = c.in_ok-laid-in-Open.ensures.laid in
+    let e = c.in_ok-push-in-Open.ensures.items in
     let rest = items_of (left c.pair.new.self) in (
       subst (All (Below (length after))) (sym e) (below_push before after cells x l.2 c.loop-cells.invariant.0 l.1),
       ap (λ cs. behind (map (read after) cs) rest) e ∙ ap (λ ds. behind ds rest) (reads_more before after cells x l.2 c.loop-cells.invariant.0)
           ∙ behind_more (map (read before) cells) (read after x) _ _ rest c.loop-cells.invariant.1
-          (step_pair NotAnItem (λ _. Err NotAnItem) item_of _ _ c.in-Open.ensures.cut_off _ _ c.in_ok-pair.ensures.the_pair _ l.0),
+          (step_pair NotAnItem (λ _. Err NotAnItem) item_of _ _ c.in-Open.ensures.cut_off _ _ c.in_ok-pair-in-Open.ensures.the_pair _ l.0),
     )
 
 pub returns-in-Close : goal.returns-in-Close

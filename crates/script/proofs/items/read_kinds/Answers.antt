@@ -10,41 +10,41 @@ use Rattle.script.proofs.items.read_kinds.Goals as goal
 pub returns-in-End : goal.returns-in-End
 returns-in-End c = record { as_spelled = behind_every _ _ _ c.loop-all.invariant (step_end NotAKind kind_named kind_of _ c.in-End.ensures.cut_off.0) }
 
-pub returns-in_err-pair : goal.returns-in_err-pair
-returns-in_err-pair c = record {
+pub returns-in_err-pair-in-Open : goal.returns-in_err-pair-in-Open
+returns-in_err-pair-in-Open c = record {
   as_spelled =
       let p = err_from_is_err_and c.from_residual.result c.from_residual.ensures.1 in
-      rw (p.1, p.2) (inr (behind_err _ _ _ _ c.loop-all.invariant (step_no_pair NotAKind kind_named kind_of _ _ c.in-Open.ensures.cut_off _ c.in_err-pair.ensures.the_pair)));
+      rw (p.1, p.2) (inr (behind_err _ _ _ _ c.loop-all.invariant (step_no_pair NotAKind kind_named kind_of _ _ c.in-Open.ensures.cut_off _ c.in_err-pair-in-Open.ensures.the_pair)));
 }
 
-pub returns-in_err-sized_kind : goal.returns-in_err-sized_kind
-returns-in_err-sized_kind c = record {
+pub returns-in_err-sized_kind-in-Open : goal.returns-in_err-sized_kind-in-Open
+returns-in_err-sized_kind-in-Open c = record {
   as_spelled =
-      let p = err_from_is_err_and c.from_residual-in_err-sized_kind.result c.from_residual-in_err-sized_kind.ensures.1 in
-      rw (p.1, p.2) (inr (behind_err _ _ _ _ c.loop-all.invariant (step_bad_pair NotAKind kind_named kind_of _ _ c.in-Open.ensures.cut_off _ _ c.in_ok-pair.ensures.the_pair _ (sym c.in_err-sized_kind.ensures.the_kind))));
+      let p = err_from_is_err_and c.from_residual-in_err-sized_kind-in-Open.result c.from_residual-in_err-sized_kind-in-Open.ensures.1 in
+      rw (p.1, p.2) (inr (behind_err _ _ _ _ c.loop-all.invariant (step_bad_pair NotAKind kind_named kind_of _ _ c.in-Open.ensures.cut_off _ _ c.in_ok-pair-in-Open.ensures.the_pair _ (sym c.in_err-sized_kind-in-Open.ensures.the_kind))));
 }
 
-pub loop-all-smaller-in_ok-push : goal.loop-all-smaller-in_ok-push
-loop-all-smaller-in_ok-push c = step_falls NotAKind kind_named kind_of _ _ c.in-Open.ensures.cut_off _ _ c.in_ok-pair.ensures.the_pair
+pub loop-all-smaller-in_ok-push-in-Open : goal.loop-all-smaller-in_ok-push-in-Open
+loop-all-smaller-in_ok-push-in-Open c = step_falls NotAKind kind_named kind_of _ _ c.in-Open.ensures.cut_off _ _ c.in_ok-pair-in-Open.ensures.the_pair
 
-pub loop-all-preserved-in_ok-push : goal.loop-all-preserved-in_ok-push
-loop-all-preserved-in_ok-push c =
-    ap (λ l. behind l (kinds_of (left c.pair.new.self))) c.in_ok-push.ensures.items
-    ∙ behind_more (vec_items c.loop-all.all) c.in_ok-sized_kind.field-0 _ _ (kinds_of (left c.pair.new.self)) c.loop-all.invariant
-    (step_pair NotAKind kind_named kind_of _ _ c.in-Open.ensures.cut_off _ _ c.in_ok-pair.ensures.the_pair _ (sym c.in_ok-sized_kind.ensures.the_kind))
+pub loop-all-preserved-in_ok-push-in-Open : goal.loop-all-preserved-in_ok-push-in-Open
+loop-all-preserved-in_ok-push-in-Open c =
+    ap (λ l. behind l (kinds_of (left c.pair.new.self))) c.in_ok-push-in-Open.ensures.items
+    ∙ behind_more (vec_items c.loop-all.all) c.in_ok-sized_kind-in-Open.field-0 _ _ (kinds_of (left c.pair.new.self)) c.loop-all.invariant
+    (step_pair NotAKind kind_named kind_of _ _ c.in-Open.ensures.cut_off _ _ c.in_ok-pair-in-Open.ensures.the_pair _ (sym c.in_ok-sized_kind-in-Open.ensures.the_kind))
 
 pub returns-in-Close : goal.returns-in-Close
 returns-in-Close c = record { as_spelled = inr (behind_err _ _ _ _ c.loop-all.invariant (step_close NotAKind kind_named kind_of _ _ c.in-Close.ensures.cut_off)) }
 
-pub returns-in_err-plain_kind : goal.returns-in_err-plain_kind
-returns-in_err-plain_kind c = record {
+pub returns-in_err-plain_kind-in-Word : goal.returns-in_err-plain_kind-in-Word
+returns-in_err-plain_kind-in-Word c = record {
   as_spelled =
-      let p = err_from_is_err_and c.from_residual-in_err-plain_kind.result c.from_residual-in_err-plain_kind.ensures.1 in
-      rw (p.1, p.2) (inr (behind_err _ _ _ _ c.loop-all.invariant (step_bad_word NotAKind kind_named kind_of _ _ _ _ c.in-Word.ensures.cut_off (sym c.in_err-plain_kind.ensures.the_kind))));
+      let p = err_from_is_err_and c.from_residual-in_err-plain_kind-in-Word.result c.from_residual-in_err-plain_kind-in-Word.ensures.1 in
+      rw (p.1, p.2) (inr (behind_err _ _ _ _ c.loop-all.invariant (step_bad_word NotAKind kind_named kind_of _ _ _ _ c.in-Word.ensures.cut_off (sym c.in_err-plain_kind-in-Word.ensures.the_kind))));
 }
 
 pub loop-all-preserved : goal.loop-all-preserved
 loop-all-preserved c =
-    ap (λ l. behind l (kinds_of (left c.next.new.self))) c.in_ok-push-2.ensures.items
-    ∙ behind_more (vec_items c.loop-all.all) c.in_ok-plain_kind.field-0 _ _ (kinds_of (left c.next.new.self)) c.loop-all.invariant
-    (step_word NotAKind kind_named kind_of _ _ _ _ c.in-Word.ensures.cut_off (sym c.in_ok-plain_kind.ensures.the_kind))
+    ap (λ l. behind l (kinds_of (left c.next.new.self))) c.in_ok-push-in-Word.ensures.items
+    ∙ behind_more (vec_items c.loop-all.all) c.in_ok-plain_kind-in-Word.field-0 _ _ (kinds_of (left c.next.new.self)) c.loop-all.invariant
+    (step_word NotAKind kind_named kind_of _ _ _ _ c.in-Word.ensures.cut_off (sym c.in_ok-plain_kind-in-Word.ensures.the_kind))

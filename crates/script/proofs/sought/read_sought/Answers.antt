@@ -43,7 +43,7 @@ loop-among-preserved g c =
     let key = c.in-Some.key in
     let rest = seeks read (left c.word.new.self) in
     let spelled = c.in_ok-read.ensures.as_spelled ∙ ap (λ o. Ok (option_map m o)) c.in-Some.is in
-    ap (λ l. behind_all (so_far c.loop-among.fit (map m l)) rest) c.in_ok-push.ensures.items
+    ap (λ l. behind_all (so_far c.loop-among.fit (map m l)) rest) c.in_ok-push-in-Some.ensures.items
     ∙ ap (λ l. behind_all (so_far c.loop-among.fit l) rest) (map-append m xs (key ∷ []))
     ∙ behind_key c.loop-among.fit (map m xs) (m key) rest
     ∙ ap (behind_all (so_far c.loop-among.fit (map m xs))) (sym (seeks_key read _ _ _ c.in_ok-word.ensures.the_argument c.if-is.ensures.compared (Some (m key)) spelled))

@@ -8,7 +8,7 @@ use Rattle.transfer.proofs.calls.take_one.Goals as goal
 
 pub returns-in_err-take_truth-in-Truth : goal.returns-in_err-take_truth-in-Truth
 returns-in_err-take_truth-in-Truth g c =
-    let p = err_from_is_err_and c.from_residual-in_err-take_truth-in-Truth.result c.from_residual-in_err-take_truth-in-Truth.ensures.1 in
+    let p = err_from_is_err_and c.from_residual.result c.from_residual.ensures.1 in
     rw (p.1, p.2) (one_missing g.C.Carrier.code c.args.kind kind.Truth c.in-Truth.is c.args.used c.args.bytes.now _ _ c.args.taken _ refl c.in_err-take_truth-in-Truth.ensures)
 
 pub returns-in_err-take_whole-in-Whole : goal.returns-in_err-take_whole-in-Whole
