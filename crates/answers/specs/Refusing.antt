@@ -2,19 +2,11 @@
 use Rattle.std.specs.Prelude.{ℕ, List, [], ◌∷◌, ◌++◌, Some, None, codes, decimal, Option}
 use Rattle.refusal.specs.Numbers.{number_of}
 use Rattle.refusal.specs.declared.Case.{Case}
-use Rattle.refusal.specs.declared.Layer.{Layer}
-use Rattle.refusal.specs.declared.Layer.TheVariants.{Carrier, Conversion, History, Types, Values}
 use Rattle.refusal.specs.declared.Refusal.{Refusal}
 use Rattle.refusal.specs.declared.Refusal.TheVariants.{NotThere, WorkMemory, Waiting, BadName, NameTaken, BadType, EditTarget, EditRule, IdsSpent, HistoryFull, WrongKind, Unfit, RecordField, Absent, MapEntry, ByteLength, OutOfRange, OverLimit, ResultMemory, Narrowing, CarrierFull, NoSuchItem}
+use Rattle.spelling.specs.Layers.{layer_name}
 use Rattle.spelling.specs.Reasons.{reason_of}
 use Rattle.spelling.specs.declared.bad.Bad.{Bad}
-
-abbrev pub layer_name : Layer → List ℕ
-layer_name Carrier = codes "carrier"
-layer_name Conversion = codes "conversion"
-layer_name History = codes "history"
-layer_name Types = codes "types"
-layer_name Values = codes "values"
 
 abbrev pub sentence_of : Refusal → List ℕ
 sentence_of NotThere = codes "no node, byte, field or schema has that number"

@@ -3,28 +3,14 @@
 #![tactic(auto)]
 
 ghost use Rattle.std.specs.Prelude.{◌≡◌, string_bytes};
-ghost use Rattle.answers.specs.Refusing.{layer_name, sentence_of, taken_text, numbered_text, case_text, bad_text};
+ghost use Rattle.answers.specs.Refusing.{sentence_of, taken_text, numbered_text, case_text, bad_text};
 ghost use Rattle.print.specs.Printing.{Adds};
 
 use print::number;
-use refusal::{Case, Layer, Refusal};
+use refusal::{Case, Refusal};
 use spelling::bad::Bad;
 use spelling::names::Named;
 use std::alloc::AllocError;
-
-impl Named for Layer {
-    ghost called = { λ l. layer_name l };
-
-    fn name(&self) -> &'static str {
-        match *self {
-            Layer::Carrier => "carrier",
-            Layer::Conversion => "conversion",
-            Layer::History => "history",
-            Layer::Types => "types",
-            Layer::Values => "values",
-        }
-    }
-}
 
 /// The refusal in words, for people.
 pub(crate) fn sentence(refusal: Refusal) -> &'static str

@@ -1,3 +1,4 @@
 pub mod Reasons
 pub mod Decimals
 pub mod Naming
+pub mod Layers

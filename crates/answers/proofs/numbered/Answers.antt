@@ -1,6 +1,6 @@
 use Rattle.std.proofs.Common.{[], ◌∷◌, ◌++◌, string_bytes, codes, decimal, ap, ◌∙◌, subst}
 use Rattle.refusal.specs.Numbers.{number_of}
-use Rattle.answers.specs.Refusing.{layer_name}
+use Rattle.spelling.specs.Layers.{layer_name}
 use Rattle.print.specs.Printing.{Adds}
 use Rattle.print.proofs.Adding.{then_adds}
 use Rattle.answers.proofs.numbered.Goals as goal
