@@ -1,9 +1,9 @@
 -- A run at the front of a row. Assumes nothing.
-use Rattle.std.proofs.Common.{◌≡◌, ℕ, ◌+◌, ◌-◌, ◌*◌, ◌/◌, ◌%◌, ◌^◌, ◌<◌, ◌≤◌, Bool, ◌⊎◌, List, [], ◌∷◌, ◌++◌, length, take, drop, ℤ, sym, refl, ap, ◌∙◌, subst, inl, inr, ⊎_elim, append_assoc, arith}
-use Rattle.std.proofs.lemmas.List.{length-append, length-drop, length-take-le, take_at, drop_at, take-take, take-append-drop, drop-take, append_cancel_left}
+use Rattle.std.proofs.Common.{◌≡◌, ℕ, ◌+◌, ◌-◌, ◌*◌, ◌/◌, ◌%◌, ◌^◌, ◌<◌, ◌≤◌, Bool, List, ◌++◌, length, take, drop, ℤ, sym, ap, ◌∙◌, subst, append_assoc, arith}
+use Rattle.std.proofs.lemmas.List.{length-append, length-drop, length-take-le, take_at, take-take, take-append-drop, drop-take, append_cancel_left}
 use borrow.Rule.Slice.PartMut.{post_of}
 use Rattle.std.proofs.lemmas.Slice.{drop-append-drop}
-use Rattle.carrier.specs.Items.{Datum, truth, whole, single, double, run, fixed, Held, Bytes, Of, a_truth, a_whole, a_single, a_double, a_run, a_fixed}
+use Rattle.carrier.specs.Items.{Datum, truth, whole, single, double, run, Held, Bytes, a_truth, a_whole, a_single, a_double, a_run, a_fixed}
 use Rattle.carrier.specs.Steps.{State, Taken, TookRun, None}
 use Rattle.avro.specs.Avro.{groups, var, avro}
 use Rattle.avro.specs.Reading.{Read, Run}

@@ -1,10 +1,10 @@
 -- Avro's code keeps the laws of a carrier's code. Assumes nothing.
-use Rattle.std.specs.Prelude.{◌≡◌, ℕ, zero, suc, ◌+◌, ◌*◌, ◌/◌, ◌%◌, ◌^◌, ◌<◌, ◌≤◌, ◌⊎◌, List, [], ◌∷◌, ◌++◌, length, ℤ, pos, negsuc, FitsSigned, nat_lt, refl}
-use Rattle.std.proofs.Common.{sym, ap, subst, ◌∙◌, inl, inr, ⊎_elim, append_assoc, arith}
+use Rattle.std.specs.Prelude.{◌≡◌, ℕ, zero, suc, ◌+◌, ◌*◌, ◌/◌, ◌%◌, ◌^◌, ◌<◌, ◌≤◌, List, [], ◌∷◌, ◌++◌, length, ℤ, pos, negsuc, FitsSigned, nat_lt, refl}
+use Rattle.std.proofs.Common.{sym, ap, ◌∙◌, ⊎_elim, append_assoc, arith}
 use Rattle.std.specs.Int.{w64}
 use Rattle.std.proofs.lemmas.List.{append_cancel_left, length-append}
 use Rattle.std.proofs.lemmas.Bool.{cases_lt, lt-ltb, le-ltb, cond-true, cond-false}
-use Rattle.carrier.specs.Items.{Datum, truth, whole, single, double, run, fixed, Held, bulk, a_truth, a_whole, a_single, a_double, a_run, a_fixed, Apart, Short, Laws}
+use Rattle.carrier.specs.Items.{truth, whole, single, double, run, fixed, a_truth, a_whole, a_single, a_double, a_run, a_fixed, Apart, Short, Laws}
 use Rattle.carrier.specs.Prefixes.{heads, tails, same_length, bit_apart}
 use Rattle.avro.specs.Reading.{Small}
 use Rattle.avro.specs.Avro.{zig, groups, var, low, avro}

@@ -1,9 +1,9 @@
 -- One entry more in an index. Assumes nothing.
-use Rattle.std.proofs.Common.{◌≡◌, ℕ, ◌+◌, ◌%◌, ◌<◌, ◌≤◌, List, length, get_or, set, sym, refl, ap, ◌∙◌, subst, ⊎_elim, arith}
+use Rattle.std.proofs.Common.{◌≡◌, ℕ, ◌+◌, ◌%◌, ◌<◌, ◌≤◌, List, length, get_or, set, sym, ap, ◌∙◌, subst, ⊎_elim, arith}
 use Rattle.std.proofs.lemmas.List.{get_or-set_same, get_or-set_other, length-set}
 use Rattle.std.proofs.lemmas.Bool.{cases_lt}
 use Rattle.keyspace.specs.Positions.{Meets}
-use Rattle.keyspace.specs.Slots.{Reached, IndexOf, slot_at, walked}
+use Rattle.keyspace.specs.Slots.{Reached, IndexOf, walked}
 use Rattle.keyspace.specs.Spots.{IsFound, IsFree}
 use Rattle.keyspace.specs.declared.slot.Slot.{Slot}
 use Rattle.keyspace.specs.declared.slot.Slot.TheVariants.{Empty, Taken}

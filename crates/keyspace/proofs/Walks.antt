@@ -1,9 +1,9 @@
 -- What a walk over an index shows. Assumes nothing.
-use Rattle.std.proofs.Common.{◌≡◌, ℕ, ◌<◌, List, length, get_or, sym, ap, ◌∙◌, subst, ⊎_elim, arith}
+use Rattle.std.proofs.Common.{◌≡◌, ℕ, ◌<◌, List, length, get_or, sym, ap, ◌∙◌, subst, ⊎_elim}
 use Rattle.std.proofs.lemmas.Bool.{cases_order}
 use Rattle.keyspace.specs.Positions.{Meets, First}
 use Rattle.keyspace.specs.Slots.{Reached, IndexOf, slot_at}
-use Rattle.keyspace.specs.Spots.{Other, Passed, IsFound, IsFree}
+use Rattle.keyspace.specs.Spots.{Passed, IsFound, IsFree}
 use Rattle.keyspace.specs.declared.slot.Slot.{Slot}
 use Rattle.keyspace.specs.declared.slot.Slot.TheVariants.{Empty, Taken}
 use Rattle.keyspace.proofs.Taking.{not_empty}

@@ -1,13 +1,13 @@
 -- An index of distinct keys where an entry is replaced or added. Assumes nothing.
 use Rattle.std.proofs.Common.{◌≡◌, ℕ, zero, suc, ◌+◌, ◌%◌, ◌<◌, ◌≤◌, List, [], ◌∷◌, ◌++◌, length, get_or, take, set, sym, refl, ap, ◌∙◌, subst, ⊎_elim, arith}
-use Rattle.std.proofs.lemmas.List.{get_or-set_same, get_or-set_other, length-set, set-set, set-get_or, length-append, length_push, get_or_append_left, get_or_push, length-take-le, get_or-take}
+use Rattle.std.proofs.lemmas.List.{get_or-set_same, get_or-set_other, length-set, set-set, set-get_or, length_push, get_or_append_left, get_or_push, length-take-le, get_or-take}
 use Rattle.std.proofs.lemmas.Bool.{cases_lt, cases_eq}
 use Rattle.keyspace.specs.Positions.{At, Meets, Absent}
 use Rattle.keyspace.specs.Slots.{IndexOf, slot_at, walked}
-use Rattle.keyspace.specs.Spots.{Other, Passed, IsFree}
+use Rattle.keyspace.specs.Spots.{Passed, IsFree}
 use Rattle.ordered_map.specs.Maps.{Distinct, Mapped}
 use Rattle.keyspace.specs.declared.slot.Slot.{Slot}
-use Rattle.keyspace.specs.declared.slot.Slot.TheVariants.{Empty, Taken}
+use Rattle.keyspace.specs.declared.slot.Slot.TheVariants.{Taken}
 use Rattle.keyspace.proofs.Reading.{one_entry}
 use Rattle.keyspace.proofs.Taking.{no_room, not_empty}
 use Rattle.keyspace.proofs.Walks.{none_by_free}

@@ -1,10 +1,10 @@
 -- One insertion: the map `m` becomes `n`. Assumes nothing.
-use Rattle.std.proofs.Common.{◌≡◌, ℕ, ◌+◌, ◌<◌, ◌≤◌, min, List, [], ◌∷◌, ◌++◌, length, take, set, sym, refl, ap, ◌∙◌, subst, arith}
+use Rattle.std.proofs.Common.{◌≡◌, ℕ, ◌+◌, ◌<◌, ◌≤◌, min, [], ◌∷◌, ◌++◌, length, take, set, sym, refl, ap, ◌∙◌, subst, arith}
 use Rattle.std.proofs.lemmas.List.{length-take-le, length-set, take_more_set}
 use Rattle.keyspace.specs.Positions.{At, Meets}
 use Rattle.ordered_map.specs.Content.{key_of}
 use Rattle.keyspace.specs.Spots.{IsFree, Passed}
-use Rattle.ordered_map.specs.Maps.{Mapped, IsMap, Replaced, Appended, Refused, Unchanged, entries_of, capacity_of}
+use Rattle.ordered_map.specs.Maps.{Mapped, IsMap, Replaced, Appended, Refused, entries_of, capacity_of}
 use Rattle.keyspace.specs.declared.slot.Slot.TheVariants.{Taken}
 use Rattle.ordered_map.specs.declared.entry.Entry.{Entry}
 use Rattle.ordered_map.specs.declared.map.OrderedMap.{OrderedMap}

@@ -1,10 +1,10 @@
 -- The laws of any list of insertions. Assumes nothing.
-use Rattle.std.proofs.Common.{◌≡◌, ℕ, suc, ◌<◌, ◌⊎◌, List, [], ◌∷◌, ◌++◌, length, get_or, set, Some, None, Option, sym, refl, ap, ◌∙◌, subst, inl, inr, ⊎_elim, arith}
+use Rattle.std.proofs.Common.{◌≡◌, ℕ, suc, ◌<◌, List, [], ◌∷◌, ◌++◌, length, get_or, set, Some, None, Option, sym, refl, ap, ◌∙◌, subst, inl, inr, ⊎_elim, arith}
 use Rattle.std.proofs.lemmas.List.{get_or-set_same, get_or-set_other, length-set, get_or_push, length_push, get_or_append_left, get_or_default}
-use Rattle.std.proofs.lemmas.Bool.{cases_lt, cases_eq}
+use Rattle.std.proofs.lemmas.Bool.{cases_lt}
 use Rattle.keyspace.specs.Positions.{At, Meets, Absent}
 use Rattle.ordered_map.specs.Content.{Holds, Within, SameContent, key_of, pair_of}
-use Rattle.ordered_map.specs.Maps.{Distinct, Replaced, Appended, Valued, ValueOrNone}
+use Rattle.ordered_map.specs.Maps.{Distinct, Valued, ValueOrNone}
 use Rattle.ordered_map.specs.Insertions.{Inserts, After, Latest, InsertedBefore, Reordered}
 use Rattle.ordered_map.specs.declared.entry.Entry.{Entry}
 use Rattle.keyspace.proofs.Reading.{one_entry}

@@ -1,7 +1,7 @@
 -- A list in another order holds the same. Assumes nothing.
-use Rattle.std.proofs.Common.{◌≡◌, ℕ, zero, suc, ◌<◌, ◌⊎◌, List, [], ◌∷◌, length, sym, refl, ap, ◌∙◌, subst, inl, inr, ⊎_elim, arith}
-use Rattle.keyspace.specs.Positions.{At, Meets, Absent}
-use Rattle.ordered_map.specs.Content.{Holds, Within}
+use Rattle.std.proofs.Common.{◌≡◌, ℕ, zero, suc, ◌⊎◌, List, ◌∷◌, sym, refl, ap, ◌∙◌, subst, inl, inr, ⊎_elim, arith}
+use Rattle.keyspace.specs.Positions.{Meets, Absent}
+use Rattle.ordered_map.specs.Content.{Within}
 use Rattle.ordered_map.specs.Maps.{Distinct}
 use Rattle.ordered_map.specs.Insertions.{Reordered, same, kept, swapped, both}
 

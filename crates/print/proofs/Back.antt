@@ -1,5 +1,5 @@
 -- What is printed of an item is read as that item. Assumes nothing.
-use Rattle.std.proofs.Common.{◌≡◌, ℕ, zero, suc, ◌+◌, ◌-◌, ◌*◌, ◌/◌, ◌%◌, ◌^◌, ◌<◌, ◌≤◌, Bool, true, false, cond, not, ◌&&◌, eqb, ltb, leb, List, [], ◌∷◌, ◌++◌, length, get_or, ℤ, pos, negsuc, Some, None, Ok, decimal, Option, sym, refl, ap, ◌∙◌, subst, append_assoc, append-nil, pow-suc, zero-add, arith}
+use Rattle.std.proofs.Common.{◌≡◌, ℕ, zero, suc, ◌+◌, ◌*◌, ◌/◌, ◌%◌, ◌^◌, ◌<◌, Bool, true, false, cond, ◌&&◌, List, [], ◌∷◌, ◌++◌, length, ℤ, pos, negsuc, Some, None, Ok, decimal, Option, sym, refl, ap, ◌∙◌, append_assoc, append-nil, pow-suc, zero-add, arith}
 use lib.Signed.{mag}
 use Rattle.std.specs.List.{flat_map, AllByRecursion as All}
 use Rattle.std.specs.Option.{ok_or}
@@ -12,8 +12,8 @@ use Rattle.std.proofs.lemmas.Bool.{eq-eqb, ne_eqb, le-leb, lt-ltb}
 use Rattle.std.proofs.lemmas.Bool.Decides.{nat_tests}
 use Rattle.spelling.specs.Decimals.{digit_of, and_some, decimal_after, decimal_of, fitting, minus, signed_of}
 use Rattle.carrier.specs.Items.{Datum, truth, whole, single, double, run, fixed, Bytes, Held}
-use Rattle.texts.specs.Encoded.{hex_digit, byte_of, onto, pairs_of, bytes_of, hex_after, bits_of, shown, escape_of, if_none, quoted, text_of}
-use Rattle.script.specs.Lexing.{Tok, opening, closing, word, in_word, lexing, tokens}
+use Rattle.texts.specs.Encoded.{hex_digit, byte_of, onto, pairs_of, bytes_of, hex_after, bits_of, shown, quoted, text_of}
+use Rattle.script.specs.Lexing.{opening, closing, word, in_word, lexing, tokens}
 use Rattle.script.specs.Nouns.{noun_name, noun_of, item_by, item_of, items_of}
 use Rattle.print.specs.Printing.{noun_in, glyph, hex_digits, hex_text, byte_text, text_text, value_text, item_text}
 use Rattle.script.specs.Shapes.{and_then, rows}

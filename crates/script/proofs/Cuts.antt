@@ -1,10 +1,10 @@
 -- Steps through a line. Assumes nothing.
-use Rattle.std.proofs.Common.{◌≡◌, ℕ, ◌+◌, ◌-◌, ◌<◌, ◌≤◌, Bool, true, false, cond, not, ◌&&◌, ◌||◌, eqb, List, [], ◌∷◌, ◌++◌, length, get_or, take, drop, sym, refl, ap, ◌∙◌, subst, add-zero, arith}
+use Rattle.std.proofs.Common.{◌≡◌, ℕ, ◌+◌, ◌<◌, ◌≤◌, true, false, cond, eqb, List, [], ◌∷◌, ◌++◌, length, get_or, drop, sym, refl, ap, ◌∙◌, add-zero, arith}
 use Rattle.std.specs.List.{between}
 use Rattle.std.proofs.lemmas.List.{drop_more, drop_all, get_or-drop, length-drop}
 use Rattle.std.proofs.lemmas.Bool.{ne_eqb, true≢false}
 use Rattle.std.proofs.lemmas.List.Edits.{between_more, length-between}
-use Rattle.script.specs.Lexing.{Tok, opening, closing, word, blank, in_word, closed, lexing, tokens}
+use Rattle.script.specs.Lexing.{Tok, opening, closing, word, blank, in_word, lexing, tokens}
 
 blank_out : (b : ℕ) → blank b ≡ true → in_word b ≡ false
 blank_out b h = rw h

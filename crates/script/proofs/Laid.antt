@@ -1,9 +1,9 @@
 -- Bytes and items that were laid behind others. Assumes nothing.
-use Rattle.std.proofs.Common.{◌≡◌, ℕ, ◌+◌, ◌-◌, ◌<◌, ◌≤◌, Bool, true, false, List, [], ◌∷◌, ◌++◌, map, length, take, drop, Ok, Err, Result, sym, refl, ap, ◌∙◌, subst, append-nil, arith}
+use Rattle.std.proofs.Common.{◌≡◌, ℕ, ◌+◌, ◌-◌, ◌≤◌, List, [], ◌∷◌, ◌++◌, map, length, take, drop, Ok, Err, Result, sym, refl, ap, ◌∙◌, append-nil, arith}
 use Rattle.std.specs.List.{AllByRecursion as All}
 use Rattle.std.proofs.ByRecursion.{All-push, All-weaker}
 use Rattle.std.proofs.lemmas.List.{drop_at, drop_all, take_all, length-append, length-drop, drop-append-le, take-append-le, map-append}
-use Rattle.carrier.specs.Items.{Datum, run, fixed}
+use Rattle.carrier.specs.Items.{run, fixed}
 use Rattle.transfer.specs.Cells.{within, read, Below}
 use Rattle.transfer.specs.declared.cells.Cell.{Cell}
 use Rattle.transfer.specs.declared.cells.Cell.TheVariants.{Truth, Whole, Single, Double, Run, Fixed}

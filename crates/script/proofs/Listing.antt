@@ -1,7 +1,7 @@
 -- Words and pairs that are read one after another. Assumes nothing.
-use Rattle.std.proofs.Common.{◌≡◌, ℕ, suc, ◌<◌, List, [], ◌∷◌, ◌++◌, length, Ok, Err, Result, sym, refl, ap, ◌∙◌, append_assoc, append-nil, arith}
+use Rattle.std.proofs.Common.{◌≡◌, ℕ, ◌<◌, List, [], ◌∷◌, ◌++◌, length, Ok, Err, Result, sym, refl, ap, ◌∙◌, append_assoc, append-nil, arith}
 use Rattle.script.specs.Lexing.{Tok, opening, closing, word}
-use Rattle.script.specs.Shapes.{and_then, a_word, a_close, a_pair, ahead, rows, behind}
+use Rattle.script.specs.Shapes.{and_then, a_pair, ahead, rows, behind}
 use Rattle.spelling.specs.declared.bad.Bad.{Bad}
 use Rattle.spelling.specs.declared.bad.Bad.TheVariants.{Brackets}
 

@@ -1,10 +1,9 @@
 -- One item where one is wanted. Assumes nothing.
-use Rattle.std.proofs.Common.{◌≡◌, ℕ, ◌<◌, List, [], ◌∷◌, map, length, get_or, Ok, Err, Result, sym, refl, ap, ◌∙◌, arith}
+use Rattle.std.proofs.Common.{◌≡◌, ◌<◌, List, [], ◌∷◌, map, length, get_or, Ok, Err, sym, refl, ap, arith}
 use Rattle.std.specs.List.{AllByRecursion as All}
 use Rattle.carrier.specs.Items.{Datum}
 use Rattle.transfer.specs.declared.cells.Cell.{Cell}
 use Rattle.script.specs.Calls.{one}
-use Rattle.spelling.specs.declared.bad.Bad.{Bad}
 use Rattle.spelling.specs.declared.bad.Bad.TheVariants.{MissingArgument, TooMuch}
 
 module _ (f : Cell → Datum) where

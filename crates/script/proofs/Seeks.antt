@@ -4,7 +4,7 @@ use Rattle.std.specs.Str.{bytes_eq}
 use Rattle.spelling.specs.declared.bad.Bad.{Bad}
 use Rattle.script.specs.Lexing.{Tok, opening, closing, word}
 use Rattle.script.specs.Shapes.{and_then, an_argument}
-use Rattle.script.specs.Seeking.{Quest, prefixed, alone, behind_all, last_in, seeks, so_far}
+use Rattle.script.specs.Seeking.{Quest, alone, behind_all, last_in, seeks, so_far}
 
 abbrev word_of : Result (List ℕ × List Tok) Bad → List ℕ
 word_of (Ok a) = a.0

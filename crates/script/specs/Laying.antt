@@ -1,5 +1,5 @@
 -- Items that are laid into memory. Assumes nothing.
-use Rattle.std.specs.Prelude.{◌≡◌, ℕ, ◌⊎◌, List, [], ◌∷◌, ◌++◌, map, length, drop, Ok, Err, vec_items, Result}
+use Rattle.std.specs.Prelude.{◌≡◌, ℕ, ◌⊎◌, List, ◌++◌, map, length, drop, Ok, Err, vec_items, Result}
 use Rattle.std.specs.List.{AllByRecursion as All}
 use Rattle.carrier.specs.Items.{Datum}
 use Rattle.transfer.specs.Cells.{within, read, Below}

@@ -1,11 +1,11 @@
 -- What was put comes back: no two lists of items of the same kinds have codes of which one begins the other. Assumes nothing.
-use Rattle.std.proofs.Common.{◌≡◌, ℕ, ◌+◌, ◌-◌, ◌<◌, ◌≤◌, min, Bool, true, false, ltb, List, [], ◌∷◌, ◌++◌, length, get_or, take, drop, sym, refl, ap, ◌∙◌, subst, append_assoc, append-nil, arith, take-append-drop}
+use Rattle.std.proofs.Common.{◌≡◌, ℕ, ◌+◌, ◌-◌, ◌<◌, ◌≤◌, true, List, [], ◌∷◌, ◌++◌, length, get_or, take, drop, sym, refl, ap, ◌∙◌, subst, append_assoc, append-nil, arith, take-append-drop}
 use Rattle.std.proofs.lemmas.List.{append_cancel_left, drop_more}
 use Rattle.std.proofs.lemmas.Bool.{ltb-true, false≢true}
-use Rattle.carrier.specs.Items.{Datum, run, fixed, Held, Of, a_truth, a_whole, a_single, a_double, a_run, a_fixed, All, bulk, Apart}
+use Rattle.carrier.specs.Items.{Datum, Held, Of, a_truth, a_whole, a_single, a_double, a_run, a_fixed, All, bulk, Apart}
 use Rattle.carrier.specs.Steps.{State}
 use Rattle.carrier.specs.Lists.{codes}
-use Rattle.transfer.specs.Cells.{items, bulks, Each, Took, TookAll, lacks, limited, Cause, no_cell, no_bytes, no_item, Stopped}
+use Rattle.transfer.specs.Cells.{items, bulks, Each, TookAll, lacks, limited, Cause, no_cell, no_bytes, no_item, Stopped}
 use Rattle.carrier.specs.declared.CarrierFault.{CarrierFault}
 use Rattle.carrier.specs.declared.Kind.{Kind}
 use Rattle.carrier.specs.declared.Kind.TheVariants as kind

@@ -1,21 +1,19 @@
 -- One item that is taken into lent memory. Assumes nothing.
-use Rattle.std.proofs.Common.{◌≡◌, ℕ, ◌+◌, ◌-◌, ◌<◌, ◌≤◌, min, true, false, List, [], ◌∷◌, ◌++◌, length, take, drop, ℤ, sym, refl, ap, ◌∙◌, subst, arith, w64, SFits, to_z, of_z}
+use Rattle.std.proofs.Common.{◌≡◌, ℕ, ◌+◌, ◌-◌, ◌<◌, ◌≤◌, min, false, List, ◌++◌, length, take, drop, ℤ, sym, refl, ap, ◌∙◌, subst, arith, w64, to_z, of_z}
 use borrow.Rule.Slice.PartMut.{put_mid}
-use Rattle.std.proofs.lemmas.List.{length-append, length-drop, length-take-le, take_at, drop_at, take_all, drop-drop, take-append-le, take-take, drop-append-le, drop_all, take-append-drop}
+use Rattle.std.proofs.lemmas.List.{length-drop, length-take-le, drop_at, take_all, drop-drop, take-append-le, drop-append-le, drop_all, take-append-drop}
 use Rattle.std.proofs.lemmas.Bool.{lt-ltb, le-ltb}
-use Rattle.std.proofs.lemmas.Slice.{take-put_mid_below, drop-put_mid}
+use Rattle.std.proofs.lemmas.Slice.{take-put_mid_below}
 use Rattle.std.proofs.lemmas.Int.{to_z-of_z}
-use Rattle.refusal.specs.declared.Refusal.{Refusal}
-use Rattle.refusal.specs.declared.Refusal.TheVariants.{ResultMemory, NoSuchItem}
-use Rattle.carrier.specs.Items.{Datum, whole, run, fixed, Held, Of, a_run, a_fixed, a_whole, bulk}
-use Rattle.carrier.specs.Meaning.{no_such_item}
+use Rattle.refusal.specs.declared.Refusal.TheVariants.{ResultMemory}
+use Rattle.carrier.specs.Items.{Datum, whole, run, fixed, Of, a_run, a_fixed, a_whole, bulk}
 use Rattle.carrier.specs.Steps.{State, Taken, Missing, TookRun}
-use Rattle.transfer.specs.Cells.{within, read, lacks, limited, Cause, no_item, no_bytes, Below, TookOne, NotOne}
+use Rattle.transfer.specs.Cells.{read, lacks, limited, Cause, no_item, no_bytes, Below, TookOne, NotOne}
 use Rattle.carrier.specs.declared.CarrierFault.{CarrierFault}
 use Rattle.carrier.specs.declared.Kind.{Kind}
 use Rattle.carrier.specs.declared.Kind.TheVariants as kind
 use Rattle.transfer.specs.declared.cells.Cell.{Cell}
-use Rattle.transfer.specs.declared.cells.Cell.TheVariants.{Truth, Whole, Single, Double, Run, Fixed}
+use Rattle.transfer.specs.declared.cells.Cell.TheVariants.{Whole, Run, Fixed}
 
 module _ (code : Datum → List ℕ) (k j : Kind) (is : k ≡ j) (used : ℕ) (bytes : List ℕ) (s t : State) where
   -- an item without bytes

@@ -1,8 +1,8 @@
 -- Items that are taken into lent memory one after another. Assumes nothing.
-use Rattle.std.proofs.Common.{◌≡◌, ℕ, ◌+◌, ◌-◌, ◌^◌, ◌<◌, ◌≤◌, true, false, List, [], ◌∷◌, ◌++◌, map, length, get_or, take, drop, set, sym, refl, ap, ◌∙◌, subst, ⊎_elim, append_assoc, append-nil, arith}
-use Rattle.std.proofs.lemmas.List.{length-append, length_push, length-set, take_more, take_more_set, take_all, take-take, drop-take, drop_more, drop-set-lt, drop-drop, map-append, length-map, length-take}
+use Rattle.std.proofs.Common.{◌≡◌, ℕ, ◌+◌, ◌-◌, ◌^◌, ◌<◌, ◌≤◌, List, [], ◌∷◌, ◌++◌, map, length, get_or, take, drop, set, sym, refl, ap, ◌∙◌, subst, ⊎_elim, append_assoc, append-nil, arith}
+use Rattle.std.proofs.lemmas.List.{length-append, length_push, length-set, take_more, take_more_set, take_all, take-take, drop-take, drop-set-lt, drop-drop, map-append, length-map, length-take}
 use Rattle.std.proofs.lemmas.Bool.{cases_lt}
-use Rattle.carrier.specs.Items.{Datum, truth, whole, single, double, run, fixed, Held, Of, All, bulk}
+use Rattle.carrier.specs.Items.{Datum, run, fixed, Held, Of, All, bulk}
 use Rattle.carrier.specs.Steps.{State, Taken}
 use Rattle.carrier.specs.Lists.{codes}
 use Rattle.transfer.specs.Cells.{within, read, items, bulks, Each, Took, TookAll, Cause, no_cell, no_bytes, no_item, Stopped, Below, TookOne, NotOne}
@@ -12,7 +12,6 @@ use Rattle.carrier.specs.declared.Kind.TheVariants as kind
 use Rattle.transfer.specs.declared.cells.Cell.{Cell}
 use Rattle.transfer.specs.declared.cells.Cell.TheVariants.{Truth, Whole, Single, Double, Run, Fixed}
 use Rattle.transfer.specs.declared.cells.Span.{Span}
-use Rattle.transfer.specs.declared.cells.Taking.{Taking}
 use Rattle.refusal.specs.declared.Refusal.{Refusal}
 use Rattle.refusal.specs.declared.Refusal.TheVariants.{ResultMemory}
 use Rattle.carrier.proofs.Rows.{all_append}

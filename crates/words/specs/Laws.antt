@@ -1,5 +1,5 @@
 -- The code in words keeps the laws of a carrier's code. Assumes nothing.
-use Rattle.std.specs.Prelude.{◌≡◌, ℕ, List, [], ◌∷◌, ◌++◌, length, ℤ, pos, negsuc, FitsSigned, refl}
+use Rattle.std.specs.Prelude.{◌≡◌, ℕ, List, ◌∷◌, ◌++◌, length, ℤ, pos, negsuc, FitsSigned}
 use Rattle.std.proofs.Common.{ap, ◌∙◌, sym, arith}
 use Rattle.std.specs.Int.{w64}
 use Rattle.carrier.specs.Items.{truth, whole, single, double, run, fixed, a_truth, a_whole, a_single, a_double, a_run, a_fixed, Apart, Short, Laws}

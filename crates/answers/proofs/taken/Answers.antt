@@ -1,4 +1,4 @@
-use Rattle.std.proofs.Common.{string_bytes, codes, decimal, sym, ap, subst}
+use Rattle.std.proofs.Common.{string_bytes, codes, decimal, sym, subst}
 use Rattle.answers.specs.Refusing.{taken_text}
 use Rattle.print.specs.Printing.{Adds}
 use Rattle.print.proofs.Adding.{then_adds}

@@ -1,4 +1,4 @@
-use Rattle.std.proofs.Common.{arith, rules}
+use Rattle.std.proofs.Common.{rules}
 use Rattle.avro.proofs.Groups.{counting_none, counting_few, counting_more, counting_all}
 use Rattle.avro.proofs.var_len.Goals as goal
 

@@ -1,4 +1,4 @@
-use Rattle.std.proofs.Common.{◌≡◌, ◌<◌, length, refl, arith}
+use Rattle.std.proofs.Common.{◌<◌, length, refl, arith}
 use Rattle.avro.proofs.Groups.{writing_room, writing_more, written_size, written_all}
 use Rattle.avro.proofs.write_var.Goals as goal
 use Rattle.avro.proofs.write_var.Goals.{At-loop-left}

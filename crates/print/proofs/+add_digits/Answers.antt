@@ -1,4 +1,4 @@
-use Rattle.std.proofs.Common.{◌≡◌, ℕ, ◌-◌, ◌/◌, ◌%◌, ◌<◌, cond, List, [], ◌∷◌, ◌++◌, is_ok, string_bytes, sym, ap, ◌∙◌, subst, arith}
+use Rattle.std.proofs.Common.{◌-◌, ◌/◌, ◌%◌, cond, [], ◌∷◌, ◌++◌, is_ok, string_bytes, sym, ap, ◌∙◌, subst, arith}
 use Rattle.print.specs.Printing.{Adds, glyph, hex_digits}
 use Rattle.print.proofs.Adding.{then_adds, pushes, digits_none, digits_step}
 use Rattle.print.proofs.+add_digits.Goals as goal

@@ -1,4 +1,4 @@
-use Rattle.std.proofs.Common.{◌≡◌, [], ◌∷◌, ◌++◌, string_bytes, sym, ap, ◌∙◌}
+use Rattle.std.proofs.Common.{[], ◌∷◌, string_bytes}
 use Rattle.std.specs.List.{flat_map}
 use Rattle.print.specs.Printing.{byte_text}
 use Rattle.print.proofs.Adding.{then_added, then_adds, pushes, joins_more, joins_all}

@@ -1,4 +1,4 @@
-use Rattle.std.proofs.Common.{◌≡◌, cond, [], ◌∷◌, ◌++◌, string_bytes, sym, ap, ◌∙◌, subst}
+use Rattle.std.proofs.Common.{cond, [], ◌∷◌, string_bytes, subst}
 use Rattle.print.specs.Printing.{Adds, hex_digits}
 use Rattle.print.proofs.Adding.{then_adds}
 use Rattle.print.proofs.text_byte.Goals as goal

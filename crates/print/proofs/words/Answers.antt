@@ -1,4 +1,4 @@
-use Rattle.std.proofs.Common.{[], ◌∷◌, ◌++◌, string_bytes}
+use Rattle.std.proofs.Common.{[], ◌∷◌, string_bytes}
 use Rattle.print.specs.Printing.{numbers_text}
 use Rattle.print.proofs.Adding.{then_added, then_adds, pushes, numbers_more, numbers_all}
 use Rattle.print.proofs.words.Goals as goal

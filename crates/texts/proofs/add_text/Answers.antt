@@ -1,8 +1,7 @@
-use Rattle.std.proofs.Common.{◌≡◌, ℕ, ◌+◌, ◌<◌, ◌≤◌, List, ◌++◌, length, get_or, drop, Some, None, vec_items, sym, refl, ap, ◌∙◌, inl, inr, arith}
+use Rattle.std.proofs.Common.{◌≡◌, ◌+◌, ◌<◌, ◌++◌, length, get_or, drop, Some, None, vec_items, sym, refl, ap, ◌∙◌, inr, arith}
 use Rattle.std.specs.Option.{option_map}
 use Rattle.std.proofs.lemmas.List.{take_rest, length-drop}
-use Rattle.std.proofs.lemmas.Bool.{eqb-false}
-use Rattle.texts.specs.Encoded.{quoted, text_of, escape_of}
+use Rattle.texts.specs.Encoded.{quoted, escape_of}
 use Rattle.texts.proofs.Digits.{onto_push, mapped_nil}
 use Rattle.texts.proofs.Quotes.{text_word, escape_long, text_shown, text_not_shown, text_escape, text_no_escape, text_end, text_more, text_open, text_none}
 use Rattle.texts.proofs.add_text.Goals as goal

@@ -1,4 +1,4 @@
-use Rattle.std.proofs.Common.{length, sym, refl, ap, ◌∙◌, arith}
+use Rattle.std.proofs.Common.{length, refl, ap, arith}
 use Rattle.avro.specs.Places.{state_of}
 use Rattle.avro.proofs.Runs.{none_fixed}
 use Rattle.avro.proofs.AvroCarrierCarrier.take_fixed.Goals as goal

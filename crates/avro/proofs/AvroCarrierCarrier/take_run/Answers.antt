@@ -1,4 +1,4 @@
-use Rattle.std.proofs.Common.{◌≡◌, ◌+◌, ◌-◌, ◌^◌, ◌<◌, ◌≤◌, min, length, take, drop, sym, refl, ap, ◌∙◌, subst, arith, rules}
+use Rattle.std.proofs.Common.{◌+◌, ◌-◌, ◌^◌, ◌<◌, ◌≤◌, min, length, take, drop, sym, refl, ap, ◌∙◌, subst, arith, rules}
 use Rattle.carrier.specs.Items.{Bytes}
 use Rattle.avro.specs.Places.{state_of}
 use Rattle.avro.specs.Reading.{Run}

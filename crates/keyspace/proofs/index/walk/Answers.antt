@@ -1,4 +1,4 @@
-use Rattle.std.proofs.Common.{◌≡◌, ◌%◌, length, get_or, sym, ap, ◌∙◌, below_more}
+use Rattle.std.proofs.Common.{◌%◌, length, get_or, sym, ap, ◌∙◌, below_more}
 use Rattle.std.proofs.lemmas.Bool.{both_ways}
 use Rattle.keyspace.specs.Slots.{walked}
 use Rattle.keyspace.specs.declared.slot.Slot.TheVariants.{Empty}

@@ -1,7 +1,6 @@
-use Rattle.std.proofs.Common.{◌≡◌, ◌<◌, map, length, take, sym, refl, ap, ◌∙◌, arith}
+use Rattle.std.proofs.Common.{◌≡◌, ◌<◌, map, length, sym, refl, ap, ◌∙◌, arith}
 use Rattle.std.proofs.lemmas.List.{take_all}
 use Rattle.std.proofs.lemmas.Bool.{both_ways, false≢true}
-use Rattle.keyspace.specs.Positions.{At}
 use Rattle.ordered_map.specs.Content.{pair_of}
 use Rattle.ordered_map.proofs.Pairs.{same_length, same_at, same_more, equal_within}
 use Rattle.ordered_map.proofs.content.is_equal.Goals as goal

@@ -1,4 +1,4 @@
-use Rattle.std.proofs.Common.{◌≡◌, map, length, take}
+use Rattle.std.proofs.Common.{◌≡◌, map, take}
 use Rattle.ordered_map.specs.Content.{pair_of}
 use Rattle.ordered_map.proofs.content.is_equal.Given as goal
 

@@ -1,4 +1,4 @@
-use Rattle.std.proofs.Common.{◌≡◌, refl, subst, arith, below_more}
+use Rattle.std.proofs.Common.{refl, subst, arith, below_more}
 use Rattle.std.proofs.lemmas.Bool.{both_ways, false≢true}
 use Rattle.keyspace.specs.Positions.{At}
 use Rattle.ordered_map.specs.Content.{Holds, pair_of}

@@ -1,13 +1,11 @@
-use Rattle.std.proofs.Common.{◌≡◌, ◌⊎◌, List, map, length, Ok, Err, vec_items, Result, sym, refl, ap, ◌∙◌, subst, inl, inr}
+use Rattle.std.proofs.Common.{map, length, Err, vec_items, sym, refl, ap, ◌∙◌, subst, inl, inr}
 use Rattle.std.specs.List.{AllByRecursion as All}
 use Rattle.std.proofs.lemmas.Result.{err_from_is_err_and}
 use Rattle.transfer.specs.Cells.{read, Below}
-use Rattle.transfer.specs.declared.cells.Cell.{Cell}
-use Rattle.script.specs.Cutting.{left, couple}
+use Rattle.script.specs.Cutting.{left}
 use Rattle.script.specs.Nouns.{item_of, items_of}
 use Rattle.script.specs.Shapes.{behind}
-use Rattle.spelling.specs.declared.bad.Bad.{Bad}
-use Rattle.spelling.specs.declared.bad.Bad.TheVariants.{NotAnItem, Brackets}
+use Rattle.spelling.specs.declared.bad.Bad.TheVariants.{NotAnItem}
 use Rattle.script.proofs.Laid.{reads_more, below_push}
 use Rattle.script.proofs.Listing.{behind_more, behind_err, behind_every, step_no_pair, step_pair, step_bad_pair, step_falls, step_bad_word, step_close, step_end}
 use Rattle.script.proofs.items.read_items.Goals as goal

@@ -1,10 +1,10 @@
-use Rattle.std.proofs.Common.{◌≡◌, vec_items, sym, refl, ap, ◌∙◌, inl, inr}
+use Rattle.std.proofs.Common.{vec_items, sym, ap, ◌∙◌, inr}
 use Rattle.std.proofs.lemmas.Result.{err_from_is_err_and}
-use Rattle.script.specs.Cutting.{left, couple}
+use Rattle.script.specs.Cutting.{left}
 use Rattle.script.specs.Nouns.{kind_named, kind_of, kinds_of}
 use Rattle.script.specs.Shapes.{behind}
-use Rattle.spelling.specs.declared.bad.Bad.TheVariants.{NotAKind, Brackets}
-use Rattle.script.proofs.Listing.{behind_none, behind_more, behind_err, behind_every, step_no_pair, step_pair, step_bad_pair, step_falls, step_word, step_bad_word, step_close, step_end}
+use Rattle.spelling.specs.declared.bad.Bad.TheVariants.{NotAKind}
+use Rattle.script.proofs.Listing.{behind_more, behind_err, behind_every, step_no_pair, step_pair, step_bad_pair, step_falls, step_word, step_bad_word, step_close, step_end}
 use Rattle.script.proofs.items.read_kinds.Goals as goal
 
 pub returns-in-End : goal.returns-in-End

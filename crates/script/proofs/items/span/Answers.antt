@@ -1,4 +1,4 @@
-use Rattle.std.proofs.Common.{vec_items, sym, ◌∙◌, arith}
+use Rattle.std.proofs.Common.{vec_items, ◌∙◌, arith}
 use Rattle.script.specs.Nouns.{spanned_of}
 use Rattle.script.proofs.Laid.{gained, More, more_length, more_within, grown_by}
 use Rattle.script.proofs.items.span.Goals as goal

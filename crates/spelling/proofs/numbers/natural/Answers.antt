@@ -1,6 +1,6 @@
 use Rattle.std.proofs.Common.{◌≡◌, ◌+◌, ◌*◌, ◌^◌, drop, sym, ap, ◌∙◌, arith}
 use Rattle.spelling.specs.Decimals.{decimal_after, under}
-use Rattle.spelling.proofs.Spelled.{read_none, read_more, read_over, read_all, read_start}
+use Rattle.spelling.proofs.Spelled.{read_none, read_more, read_over, read_all}
 use Rattle.spelling.proofs.numbers.natural.Goals as goal
 
 pub returns-in_err-d : goal.returns-in_err-d

@@ -1,12 +1,11 @@
-use Rattle.std.proofs.Common.{◌≡◌, ℕ, ◌≤◌, List, map, length, take, sym, refl, ap, subst, arith}
+use Rattle.std.proofs.Common.{ℕ, ◌≤◌, List, map, length, sym, refl, ap, subst, arith}
 use Rattle.std.proofs.lemmas.List.{take_all, length-map}
-use Rattle.carrier.specs.Items.{Datum, Held}
+use Rattle.carrier.specs.Items.{Held}
 use Rattle.carrier.specs.Meaning.{datum}
 use Rattle.carrier.specs.Lists.{codes}
 use Rattle.carrier.specs.declared.Item.{Item}
 use Rattle.carrier.proofs.Rows.{all_more, all_all}
 use Rattle.transfer.proofs.Puts.{at, at_is, at_in, price_more, price_under, sofar_none, sofar_more, sofar_fits, sofar_all}
-use Rattle.transfer.proofs.calls.put_items.Given as given
 use Rattle.transfer.proofs.calls.put_items.Goals as goal
 
 past : (xs : List Item) (i : ℕ) → length xs ≤ i → length (map datum xs) ≤ i

@@ -1,4 +1,4 @@
-use Rattle.std.proofs.Common.{◌≡◌, ◌+◌, ◌-◌, map, length, take}
+use Rattle.std.proofs.Common.{◌≡◌, ◌+◌, map, length, take}
 use Rattle.carrier.specs.Items.{Held, All}
 use Rattle.carrier.specs.Meaning.{datum}
 use Rattle.carrier.specs.Lists.{codes}

@@ -1,10 +1,9 @@
-use Rattle.std.proofs.Common.{◌≡◌, ℕ, ◌+◌, length, set, sym, refl, ap, ◌∙◌, subst, arith, w64, Fits, rules}
+use Rattle.std.proofs.Common.{◌≡◌, ◌+◌, length, set, sym, refl, ap, ◌∙◌, subst, arith}
 use Rattle.std.proofs.lemmas.Result.{err_from_is_err_and}
-use Rattle.carrier.specs.Items.{Datum, bulk}
+use Rattle.carrier.specs.Items.{bulk}
 use Rattle.transfer.specs.Cells.{read}
-use Rattle.transfer.proofs.Takes.{Midway, midway_none, midway_more, numbers_fit, stop_cells, stop_one, took_all}
+use Rattle.transfer.proofs.Takes.{Midway, midway_more, numbers_fit, stop_cells, stop_one, took_all}
 use Rattle.transfer.proofs.Back.{back_all, back_stopped}
-use Rattle.transfer.proofs.calls.take_items.Given as given
 use Rattle.transfer.proofs.calls.take_items.Goals as goal
 
 pub returns-then-i-cells : goal.returns-then-i-cells
