@@ -1,7 +1,7 @@
 -- What is printed of an item is read as that item. Assumes nothing.
 use Rattle.std.proofs.Common.{◌≡◌, ℕ, zero, suc, ◌+◌, ◌*◌, ◌/◌, ◌%◌, ◌^◌, ◌<◌, Bool, true, false, cond, ◌&&◌, List, [], ◌∷◌, ◌++◌, length, ℤ, pos, negsuc, Some, None, Ok, decimal, Option, sym, refl, ap, ◌∙◌, append_assoc, append-nil, pow-suc, zero-add, arith}
 use lib.Signed.{mag}
-use Rattle.std.specs.List.{flat_map, AllByRecursion as All}
+use Rattle.std.specs.List.{flat_map, AllByRecursion}
 use Rattle.std.specs.Option.{ok_or}
 use Rattle.std.specs.Fmt.{signed_decimal}
 use Rattle.std.proofs.lemmas.Nat.{div-add-mod', mod_below, div_below}
@@ -25,7 +25,7 @@ use Rattle.texts.proofs.Quotes.{plain_step}
 use Rattle.spelling.proofs.Spelled.{read_start}
 
 abbrev pub Word : List ℕ → Type 0
-Word bs = All (λ b. in_word b ≡ true) bs
+Word bs = AllByRecursion (λ b. in_word b ≡ true) bs
 
 -- decimal digits
 after_append : (n : ℕ) (xs ys : List ℕ) → decimal_after n (xs ++ ys) ≡ and_some (decimal_after n xs) (λ m. decimal_after m ys)

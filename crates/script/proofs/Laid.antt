@@ -1,6 +1,6 @@
 -- Bytes and items that were laid behind others. Assumes nothing.
 use Rattle.std.proofs.Common.{◌≡◌, ℕ, ◌+◌, ◌-◌, ◌≤◌, List, [], ◌∷◌, ◌++◌, map, length, take, drop, Ok, Err, Result, sym, refl, ap, ◌∙◌, append-nil, arith}
-use Rattle.std.specs.List.{AllByRecursion as All}
+use Rattle.std.specs.List.{AllByRecursion}
 use Rattle.std.proofs.ByRecursion.{All-push, All-weaker}
 use Rattle.std.proofs.lemmas.List.{drop_at, drop_all, take_all, length-append, length-drop, drop-append-le, take-append-le, map-append}
 use Rattle.carrier.specs.Items.{run, fixed}
@@ -62,13 +62,13 @@ read_grown before after (Run s) g h = ap run (within_grown before after s g h)
 read_grown before after (Fixed s) g h = ap fixed (within_grown before after s g h)
 
 -- the cells that were there are read as before
-reads_grown : (before after : List ℕ) (cs : List Cell) → Grown before after → All (Below (length before)) cs → map (read after) cs ≡ map (read before) cs
+reads_grown : (before after : List ℕ) (cs : List Cell) → Grown before after → AllByRecursion (Below (length before)) cs → map (read after) cs ≡ map (read before) cs
 reads_grown before after [] g h = refl
 reads_grown before after (c ∷ cs) g h = ap (λ x. x ∷ map (read after) cs) (read_grown before after c g h.0) ∙ ap (λ l. read before c ∷ l) (reads_grown before after cs g h.1)
 
-module _ (before after : List ℕ) (cells : List Cell) (c : Cell) (grown : Grown before after) (low : All (Below (length before)) cells) where
+module _ (before after : List ℕ) (cells : List Cell) (c : Cell) (grown : Grown before after) (low : AllByRecursion (Below (length before)) cells) where
   pub reads_more : map (read after) (cells ++ c ∷ []) ≡ map (read before) cells ++ read after c ∷ []
   reads_more = map-append (read after) cells (c ∷ []) ∙ ap (λ l. l ++ read after c ∷ []) (reads_grown before after cells grown low)
 
-  pub below_push : Below (length after) c → All (Below (length after)) (cells ++ c ∷ [])
+  pub below_push : Below (length after) c → AllByRecursion (Below (length after)) (cells ++ c ∷ [])
   below_push h = All-push (Below (length after)) cells c (All-weaker (Below (length before)) (Below (length after)) (λ d. below_more (length before) (length after) d (grown_length before after grown)) cells low) h

@@ -1,6 +1,6 @@
 -- One item where one is wanted. Assumes nothing.
 use Rattle.std.proofs.Common.{◌≡◌, ◌<◌, List, [], ◌∷◌, map, length, get_or, Ok, Err, sym, refl, ap, arith}
-use Rattle.std.specs.List.{AllByRecursion as All}
+use Rattle.std.specs.List.{AllByRecursion}
 use Rattle.carrier.specs.Items.{Datum}
 use Rattle.transfer.specs.declared.cells.Cell.{Cell}
 use Rattle.script.specs.Calls.{one}
@@ -21,6 +21,6 @@ module _ (f : Cell → Datum) where
   one_one (c ∷ []) x h e = ap (λ y. Ok (f y)) (sym e)
   one_one (c ∷ d ∷ cs) x h e = absurd (omega arith)
 
-pub one_all : (P : Cell → Type 0) (cs : List Cell) (x : Cell) → length cs ≡ 1 → x ≡ get_or cs 0 x → All P cs → P x
+pub one_all : (P : Cell → Type 0) (cs : List Cell) (x : Cell) → length cs ≡ 1 → x ≡ get_or cs 0 x → AllByRecursion P cs → P x
 one_all P [] x h e a = absurd (omega arith)
 one_all P (c ∷ cs) x h e a = rw e a.0

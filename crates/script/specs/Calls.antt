@@ -1,7 +1,7 @@
 -- The calls that lines spell. Assumes nothing.
 use Rattle.std.specs.Prelude.{◌≡◌, ℕ, ◌⊎◌, List, [], ◌∷◌, length, Some, None, Ok, Err, vec_items, codes, Option, Result}
 use Rattle.std.specs.Option.{ok_or}
-use Rattle.std.specs.List.{AllByRecursion as All}
+use Rattle.std.specs.List.{AllByRecursion}
 use Rattle.carrier.specs.Items.{Datum}
 use Rattle.transfer.specs.Cells.{read, Below}
 use Rattle.carrier.specs.declared.Kind.{Kind}
@@ -113,7 +113,7 @@ Placed Row = Unit {0}
 Placed Room = Unit {0}
 Placed Waiting = Unit {0}
 Placed (Price c bs) = Below (length (vec_items bs)) c
-Placed (ItemPut i) = All (Below (length (vec_items i.bytes))) (vec_items i.cells)
+Placed (ItemPut i) = AllByRecursion (Below (length (vec_items i.bytes))) (vec_items i.cells)
 Placed (ItemTake ks) = Unit {0}
 
 -- the call is what was spelled, or the reason why none was, or memory failed

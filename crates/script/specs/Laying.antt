@@ -1,6 +1,6 @@
 -- Items that are laid into memory. Assumes nothing.
 use Rattle.std.specs.Prelude.{◌≡◌, ℕ, ◌⊎◌, List, ◌++◌, map, length, drop, Ok, Err, vec_items, Result}
-use Rattle.std.specs.List.{AllByRecursion as All}
+use Rattle.std.specs.List.{AllByRecursion}
 use Rattle.carrier.specs.Items.{Datum}
 use Rattle.transfer.specs.Cells.{within, read, Below}
 use Rattle.transfer.specs.declared.cells.Cell.{Cell}
@@ -35,5 +35,5 @@ datums i = map (read (vec_items i.bytes)) (vec_items i.cells)
 
 -- the items lie in the cells, their bytes inside the memory
 abbrev pub Listed : Result Items Bad → Result (List Datum) Bad → Type 0
-Listed (Ok i) o = (o ≡ Ok (datums i)) × All (Below (length (vec_items i.bytes))) (vec_items i.cells)
+Listed (Ok i) o = (o ≡ Ok (datums i)) × AllByRecursion (Below (length (vec_items i.bytes))) (vec_items i.cells)
 Listed (Err e) o = (e ≡ NoMemory) ⊎ (o ≡ Err e)

@@ -1,5 +1,5 @@
 use Rattle.std.proofs.Common.{map, length, Err, vec_items, sym, refl, ap, ◌∙◌, subst, inl, inr}
-use Rattle.std.specs.List.{AllByRecursion as All}
+use Rattle.std.specs.List.{AllByRecursion}
 use Rattle.std.proofs.lemmas.Result.{err_from_is_err_and}
 use Rattle.transfer.specs.Cells.{read, Below}
 use Rattle.script.specs.Cutting.{left}
@@ -42,7 +42,7 @@ loop-cells-preserved c =
     let l = c.in_ok-laid-in-Open.ensures.laid in
     let e = c.in_ok-push-in-Open.ensures.items in
     let rest = items_of (left c.pair.new.self) in (
-      subst (All (Below (length after))) (sym e) (below_push before after cells x l.2 c.loop-cells.invariant.0 l.1),
+      subst (AllByRecursion (Below (length after))) (sym e) (below_push before after cells x l.2 c.loop-cells.invariant.0 l.1),
       ap (λ cs. behind (map (read after) cs) rest) e ∙ ap (λ ds. behind ds rest) (reads_more before after cells x l.2 c.loop-cells.invariant.0)
           ∙ behind_more (map (read before) cells) (read after x) _ _ rest c.loop-cells.invariant.1
           (step_pair NotAnItem (λ _. Err NotAnItem) item_of _ _ c.in-Open.ensures.cut_off _ _ c.in_ok-pair-in-Open.ensures.the_pair _ l.0),

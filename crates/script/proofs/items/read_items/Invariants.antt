@@ -1,5 +1,5 @@
 use Rattle.std.proofs.Common.{◌≡◌, map, length, vec_items}
-use Rattle.std.specs.List.{AllByRecursion as All}
+use Rattle.std.specs.List.{AllByRecursion}
 use Rattle.transfer.specs.Cells.{read, Below}
 use Rattle.script.specs.Cutting.{left}
 use Rattle.script.specs.Nouns.{items_of}
@@ -7,7 +7,7 @@ use Rattle.script.specs.Shapes.{behind}
 use Rattle.script.proofs.items.read_items.Given as goal
 
 abbrev pub invariant-loop-cells : goal.invariant-loop-cells
-invariant-loop-cells l = All (Below (length (vec_items l.bytes))) (vec_items l.cells) × (behind (map (read (vec_items l.bytes)) (vec_items l.cells)) (items_of (left l.tokens)) ≡ items_of (left l.initial.tokens))
+invariant-loop-cells l = AllByRecursion (Below (length (vec_items l.bytes))) (vec_items l.cells) × (behind (map (read (vec_items l.bytes)) (vec_items l.cells)) (items_of (left l.tokens)) ≡ items_of (left l.initial.tokens))
 
 abbrev pub decreases-loop-cells : goal.decreases-loop-cells
 decreases-loop-cells l = length (left l.tokens)
