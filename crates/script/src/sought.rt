@@ -1,4 +1,4 @@
-//! Keys that are looked for: the words before `find`, and the one behind it.
+//! Keys that are looked for: the words before `find`, and the one behind it. No verb reads them yet.
 
 ghost use Rattle.std.specs.Prelude.{◌≡◌, ℕ, List, map, Option as Maybe, Result as Outcome};
 ghost use Rattle.std.specs.Option.{option_map};

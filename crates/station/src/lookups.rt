@@ -1,4 +1,4 @@
-//! The calls on keys: where an id or a name stands among others.
+//! The calls on keys: where an id or a name stands among others. No line of a script makes them yet.
 
 use keyspace::fields::{FieldIds, FieldNames, position_of_id, position_of_name};
 use keyspace::name::Name;
