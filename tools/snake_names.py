@@ -3,9 +3,10 @@
 
 usage: python3 tools/snake_names.py [--list]     at the top of the repository, once, after the scripts of the toolchain
 
-Renamed are the functions, constructors, fields and lemmas that a file of specs/ or proofs/ declares, where they are used: in .antt
-files, and in the ghost parts of .rt files. Functions of src/, texts in quotes, remarks, types, modules and the names that the
-toolchain makes (goals, steps, invariants) stay. It stops, and writes nothing, where two names would fall together.
+Renamed are the functions, constructors, fields and lemmas that a file of specs/ or proofs/ declares, and the names under which a
+file imports another's, where they are used: in .antt files, and in the ghost parts of .rt files. Functions of src/, texts in quotes,
+remarks, types, modules and the names that the toolchain makes (goals, steps, invariants) stay. It stops, and writes nothing, where
+two names would fall together.
 """
 
 import os
@@ -14,6 +15,7 @@ import sys
 
 TOKEN = re.compile(r'b?\'\\?.\'|"(?:\\.|[^"\\])*"|--.*|//.*|[^\s(){}\[\].,;:"|=]+')
 DECLARED = re.compile(r"^(\s*)((?:(?:abbrev|opaque|unfoldable|pub|instance)\s+)*)([a-z][^\s:(){},.=|λ→]*)((?:\s+[^\s:=]+)*)\s*:\s+(.*)$")
+ALIAS = re.compile(r"^(?:ghost |pub )*use [^\n]*$", re.M)
 GHOST = re.compile(r"\bghost\s+(?!use\b|invariant\b|const\b|fn\b)([a-z]\w*)")
 
 
@@ -77,6 +79,9 @@ def declared():
                     names.add(n)
                     if in_record is not None:
                         fields.add(n)
+    for path in [*files(".antt"), *files(".rt")]:
+        for line in ALIAS.findall(read(path)):
+            names |= {n for n in re.findall(r" as ([a-z]\w*)", line) if own(n)}
     for path in files(".rt"):
         for m in GHOST.finditer(read(path)):
             if own(m[1]):

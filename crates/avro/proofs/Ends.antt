@@ -92,14 +92,14 @@ put_length xs ys at n h e = simp (length-append, length-take, length-drop) (omeg
 -- p is written from `to` on, and the places become a and b
 pub put_behind : (xs ys p : List ℕ) (from to at n a b : ℕ) (f : Bool) → to ≤ length xs → from ≤ to → at ≡ to → n ≡ length p → length ys ≡ length (take (at + n - at) (drop at xs)) → ys ≡ p → n ≤ cond f (length xs) 0 - cond f to 0
     → a ≡ from → b ≡ to + n → Added p (state_at xs from to f) (state_at (put_mid at (at + n - at) xs ys) a b f)
-put_behind xs ys p from to at n a b f inside o at_is n-is ys-long is h a-is b-is =
+put_behind xs ys p from to at n a b f inside o at_is n_is ys_long is h a_is b_is =
     let zs = put_mid at (at + n - at) xs ys in
     let room = put_inside f to n (length xs) inside h in
-    let long : length ys ≡ n = ap length is ∙ sym n-is in
-    let same : length zs ≡ length xs = put_length xs ys at n (omega arith) ys-long in
+    let long : length ys ≡ n = ap length is ∙ sym n_is in
+    let same : length zs ≡ length xs = put_length xs ys at n (omega arith) ys_long in
     record {
       fits = omega arith;
-      row = (λ i. part (a-is i) (b-is i) zs) ∙ ap (λ k. part from (to + n) (put_mid k (k + n - k) xs ys)) at_is ∙ part_grown from to n xs ys o room long ∙ ap (λ l. part from to xs ++ l) is;
+      row = (λ i. part (a_is i) (b_is i) zs) ∙ ap (λ k. part from (to + n) (put_mid k (k + n - k) xs ys)) at_is ∙ part_grown from to n xs ys o room long ∙ ap (λ l. part from to xs ++ l) is;
       capacity = ap (λ k. cond f k 0) same;
-      count = ap (λ k. cond f k 0) b-is ∙ count_grown f to n (length xs) h ∙ ap (λ k. cond f to 0 + k) n-is;
+      count = ap (λ k. cond f k 0) b_is ∙ count_grown f to n (length xs) h ∙ ap (λ k. cond f to 0 + k) n_is;
     }

@@ -11,6 +11,9 @@ pub fn bytes_held(s: &[u8])
 {
     if s.len() > 0 {
         let _first = s[0];
+    } else {
+        // What is not read is no byte.
+        prove!(s.is_empty());
     }
 }
 

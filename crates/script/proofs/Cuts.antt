@@ -60,8 +60,8 @@ module _ (line : List ℕ) (at start : ℕ) (same : tokens (drop start line) ≡
   pub cut_word : (stop : ℕ) → start ≤ stop → stop ≤ length line → lexing (between start stop line) (drop stop line) ≡ tokens (drop start line)
       → (stop < length line → in_word (get_or line stop 0) ≡ false) → start < length line → blank (get_or line start 0) ≡ false → (get_or line start 0 ≡ 40 → ⊥) → (get_or line start 0 ≡ 41 → ⊥)
       → tokens (drop at line) ≡ word (between start stop line) ∷ tokens (drop stop line)
-  cut_word stop f w e x h k no-open no-close =
-      let inner : in_word (get_or line start 0) ≡ true = rw (k, ne_eqb (get_or line start 0) 40 no-open, ne_eqb (get_or line start 0) 41 no-close) in
+  cut_word stop f w e x h k no_open no_close =
+      let inner : in_word (get_or line start 0) ≡ true = rw (k, ne_eqb (get_or line start 0) 40 no_open, ne_eqb (get_or line start 0) 41 no_close) in
       let apart : start ≡ stop → ⊥ = λ s. true≢false (sym inner ∙ ap (λ n. in_word (get_or line n 0)) s ∙ x (omega arith)) in
       let some : 0 < length (between start stop line) = simp length-between (omega arith) in
       sym same ∙ sym e ∙ lex_word (between start stop line) (drop stop line) some (λ l. ap in_word (get_or-drop stop line 0 0 ∙ ap (λ n. get_or line n 0) (add-zero stop)) ∙ x (omega (arith, length-drop stop line)))

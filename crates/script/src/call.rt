@@ -2,7 +2,7 @@
 
 ghost use Rattle.std.specs.Prelude.{◌≡◌};
 ghost use Rattle.script.specs.Cutting.{left};
-ghost use Rattle.script.specs.Lexing.{tokens as tokensOf, uncarried};
+ghost use Rattle.script.specs.Lexing.{tokens as tokens_of, uncarried};
 ghost use Rattle.script.specs.Calls.{sort_name, verb_name, sort_of, opens_by, opening_of, opened, by_verb, call_of, Parses};
 ghost use Rattle.script.specs.Shapes.{Meets};
 
@@ -157,7 +157,7 @@ fn read_call(heap: Global, verb: Verb, tokens: &mut Tokens) -> Result<Call, Bad>
 
 /// The call that the line spells, or why it spells none.
 pub fn parse(heap: Global, line: &[u8]) -> Result<Call, Bad>
-    ensures as_spelled { Parses result (call_of (tokensOf (uncarried line.now))) }
+    ensures as_spelled { Parses result (call_of (tokens_of (uncarried line.now))) }
 {
     let mut tokens = Tokens::of(trimmed(line));
     match tokens.next() {
