@@ -1,8 +1,10 @@
 //! The calls on keys: where an id or a name stands among others. No line of a script makes them yet.
 
+ghost use Rattle.std.specs.Prelude.{◌≤◌, IfOk, vec_len};
+
 use keyspace::fields::{FieldIds, FieldNames, position_of_id, position_of_name};
 use keyspace::name::Name;
-use keyspace::slot::{Slot, TooFewSlots};
+use keyspace::slot::Slot;
 use keyspace::space::{KeySpace, NumberedKeySpace};
 use ordered_map::entry::Entry;
 use ordered_map::map::OrderedMap;
@@ -11,7 +13,9 @@ use script::sought::Sought;
 use std::alloc::{AllocError, Global};
 
 // Twice as many slots as keys, so that look-ups are short.
-fn slots_for(heap: Global, keys: usize) -> Result<Vec<Slot>, AllocError> {
+fn slots_for(heap: Global, keys: usize) -> Result<Vec<Slot>, AllocError>
+    ensures enough { IfOk result (λ v. keys ≤ vec_len v) }
+{
     vec![in heap; Slot::Empty; keys.saturating_mul(2)]
 }
 
@@ -39,18 +43,13 @@ where
     Ok(map.len())
 }
 
-fn say_position(
-    out: &mut String,
-    place: Result<Option<FieldPosition>, TooFewSlots>,
-) -> Result<(), AllocError> {
+fn say_position(out: &mut String, place: Option<FieldPosition>) -> Result<(), AllocError> {
     match place {
-        Ok(Some(position)) => {
+        Some(position) => {
             out.push_str("ok ")?;
             print::number(out, position.0 as u64)
         }
-        Ok(None) => out.push_str("none"),
-        // There are enough slots.
-        Err(TooFewSlots) => Err(AllocError),
+        None => out.push_str("none"),
     }
 }
 
@@ -75,7 +74,10 @@ pub(crate) fn say_ids(
 ) -> Result<(), AllocError> {
     let among = sought.among.as_slice();
     let mut slots = slots_for(heap, among.len())?;
-    say_position(out, position_of_id(among, &mut slots, sought.key))?;
+    let Ok(place) = position_of_id(among, &mut slots, sought.key) else {
+        unreachable!()
+    };
+    say_position(out, place)?;
     let different = count_different(heap, &FieldIds, among)?;
     say_different(out, "ids: ", among.len(), different)
 }
@@ -87,7 +89,10 @@ pub(crate) fn say_names(
 ) -> Result<(), AllocError> {
     let among = sought.among.as_slice();
     let mut slots = slots_for(heap, among.len())?;
-    say_position(out, position_of_name(among, &mut slots, sought.key))?;
+    let Ok(place) = position_of_name(among, &mut slots, sought.key) else {
+        unreachable!()
+    };
+    say_position(out, place)?;
     let different = count_different(heap, &FieldNames, among)?;
     say_different(out, "names: ", among.len(), different)
 }
