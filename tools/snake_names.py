@@ -9,11 +9,11 @@ remarks, types, modules and the names that the toolchain makes (goals, steps, in
 two names would fall together.
 """
 
-import os
 import re
 import sys
 
-TOKEN = re.compile(r'b?\'\\?.\'|"(?:\\.|[^"\\])*"|--.*|//.*|[^\s(){}\[\].,;:"|=]+')
+from respelling import TOKEN, files, read, respell
+
 DECLARED = re.compile(r"^(\s*)((?:(?:abbrev|opaque|unfoldable|pub|instance)\s+)*)([a-z][^\s:(){},.=|λ→]*)((?:\s+[^\s:=]+)*)\s*:\s+(.*)$")
 ALIAS = re.compile(r"^(?:ghost |pub )*use [^\n]*$", re.M)
 GHOST = re.compile(r"\bghost\s+(?!use\b|invariant\b|const\b|fn\b)([a-z]\w*)")
@@ -43,23 +43,10 @@ def own(name):
     return "-" in name or re.search(r"[a-z0-9][A-Z]", name)
 
 
-def files(ending):
-    for folder, dirs, names in os.walk("crates"):
-        dirs[:] = sorted(d for d in dirs if d != "out")
-        for n in sorted(names):
-            if n.endswith(ending):
-                yield os.path.join(folder, n)
-
-
-def read(path):
-    with open(path, encoding="utf-8", errors="surrogateescape") as f:
-        return f.read()
-
-
 def declared():
     """The names to be spelled anew, and those of them that are fields."""
     names, fields, all_names = set(), set(), set()
-    for path in files(".antt"):
+    for path in files("crates", ".antt"):
         in_record = None
         for line in read(path).split("\n"):
             if re.match(r"\s*(pub\s+)?record\s", line) and line.rstrip().endswith("where"):
@@ -79,10 +66,10 @@ def declared():
                     names.add(n)
                     if in_record is not None:
                         fields.add(n)
-    for path in [*files(".antt"), *files(".rt")]:
+    for path in [*files("crates", ".antt"), *files("crates", ".rt")]:
         for line in ALIAS.findall(read(path)):
             names |= {n for n in re.findall(r" as ([a-z]\w*)", line) if own(n)}
-    for path in files(".rt"):
+    for path in files("crates", ".rt"):
         for m in GHOST.finditer(read(path)):
             if own(m[1]):
                 names.add(m[1])
@@ -90,45 +77,42 @@ def declared():
     return names, fields, all_names
 
 
+def falls(to, all_names):
+    """Says which names would fall together, or with a word that stands for something else."""
+    seen, used, said = {}, set(), []
+    for path in files("crates", ".antt"):
+        used |= set(TOKEN.findall(read(path)))
+    for n, s in sorted(to.items()):
+        if s in seen or s in all_names:
+            said.append(f"fall together: {n} and {seen.get(s, s)}")
+        elif s in used:
+            said.append(f"already used for something else: {s}, wanted for {n}")
+        seen[s] = n
+    return said
+
+
 def main():
     names, fields, all_names = declared()
     to = {n: snake(n) for n in names}
-    seen, bad = {}, False
-    for n, s in sorted(to.items()):
-        if s in seen or s in all_names:
-            print(f"fall together: {n} and {seen.get(s, s)}")
-            bad = True
-        seen[s] = n
-    used = set()
-    for path in files(".antt"):
-        used |= set(TOKEN.findall(read(path)))
-    for s in sorted(seen):
-        if s in used:
-            print(f"already used for something else: {s}, wanted for {seen[s]}")
-            bad = True
-    if bad:
+    said = falls(to, all_names)
+    if said:
+        print("\n".join(said))
         return 1
     if "--list" in sys.argv:
         for n in sorted(to):
             print(n, to[n], "field" if n in fields else "")
         return 0
-    for path in [*files(".antt"), *files(".rt")]:
-        text = read(path)
 
-        def one(m):
-            word = m[0]
-            if word.startswith(('"', "--", "//")) or word not in to:
-                return word
-            before = text[m.start() - 1 : m.start()]
-            if before == "." and word not in fields and not re.search(r"[A-Z]\w*\.$", text[: m.start()][-60:]):
-                return word
-            return to[word]
+    def spelled(word, before):
+        if word not in to:
+            return word
+        # Behind a dot stands a field, or a name behind its module.
+        if before.endswith(".") and word not in fields and not re.search(r"[A-Z]\w*\.$", before[-60:]):
+            return word
+        return to[word]
 
-        new = TOKEN.sub(one, text)
-        if new != text:
-            with open(path, "w", encoding="utf-8", errors="surrogateescape") as f:
-                f.write(new)
-            print(path)
+    for path in [*files("crates", ".antt"), *files("crates", ".rt")]:
+        respell(path, spelled)
     return 0
 
 

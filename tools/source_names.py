@@ -11,25 +11,13 @@ import os
 import re
 import sys
 
-TOKEN = re.compile(r'"(?:\\.|[^"\\])*"|--.*|[^\s(){}\[\].,;:"|=]+')
+from respelling import TOKEN, files, read, respell
+
 WORDS = {
     "type_inv", "in_ok", "in_err", "in_default", "from_residual", "slice_bounds", "offset_bounds", "invariant_of", "yielded_by",
     "well_formed", "items_fit", "shared_slice_known", "row_known", "the_row",
     *(f"overflow_{w}" for w in ("add", "sub", "mul", "shl", "shr", "cast", "step", "neg")), "nonzero_div", "nonzero_rem",
 }
-
-
-def read(path):
-    with open(path, encoding="utf-8", errors="surrogateescape") as f:
-        return f.read()
-
-
-def walk(top, ending):
-    for folder, dirs, names in os.walk(top):
-        dirs[:] = sorted(d for d in dirs if d != "out")
-        for n in sorted(names):
-            if n.endswith(ending):
-                yield os.path.join(folder, n)
 
 
 def joined(token, words):
@@ -54,30 +42,23 @@ def uses():
     return {l.split(":")[0].split()[0]: l.split(":")[1].split() for l in lines if ":" in l}
 
 
+def underscored(crate, below):
+    """The names with underscores that stand in the source of the crate and of those that it uses."""
+    words = set(WORDS)
+    for c in [crate, *below[crate]]:
+        for path in files(os.path.join("crates", c, "src"), ".rt"):
+            words |= {w for w in re.findall(r"[A-Za-z_]\w*", read(path)) if "_" in w.strip("_")}
+    return words
+
+
 def main(argv):
     below = uses()
     for crate in argv or sorted(os.listdir("crates")):
-        top = os.path.join("crates", crate)
-        words = set(WORDS)
-        for c in [crate, *below[crate]]:
-            for path in walk(os.path.join("crates", c, "src"), ".rt"):
-                words |= {w for w in re.findall(r"[A-Za-z_]\w*", read(path)) if "_" in w.strip("_")}
-        for path in walk(os.path.join(top, "proofs"), ".antt"):
-            text = read(path)
-            head = "\n".join(l for l in text.split("\n") if l.startswith(("use ", "pub use ")))
+        words = underscored(crate, below)
+        for path in files(os.path.join("crates", crate, "proofs"), ".antt"):
+            head = "\n".join(l for l in read(path).split("\n") if l.startswith(("use ", "pub use ")))
             imported = set(TOKEN.findall(re.sub(r"Goals\.\{[^}]*\}", "", head)))
-
-            def one(m):
-                word = m[0]
-                if word.startswith(('"', "--")) or "-" not in word or word in imported:
-                    return word
-                return joined(word, words)
-
-            new = TOKEN.sub(one, text)
-            if new != text:
-                with open(path, "w", encoding="utf-8", errors="surrogateescape") as f:
-                    f.write(new)
-                print(path)
+            respell(path, lambda word, _: joined(word, words) if "-" in word and word not in imported else word)
     return 0
 
 
