@@ -1,5 +1,6 @@
 -- What the code's items and faults stand for. Assumes nothing.
-use Rattle.std.specs.Prelude.{ℕ, Some}
+use Rattle.std.specs.Prelude.{ℕ, List, Some}
+use Rattle.std.specs.Borrow.{Bor}
 use Rattle.refusal.specs.declared.Case.{Case}
 use Rattle.refusal.specs.declared.Layer.TheVariants.{Carrier}
 use Rattle.refusal.specs.declared.Refusal.TheVariants.{ResultMemory, CarrierFull, NoSuchItem}
@@ -8,7 +9,7 @@ use Rattle.carrier.specs.declared.CarrierFault.{CarrierFault}
 use Rattle.carrier.specs.declared.Item.{Item}
 use Rattle.carrier.specs.declared.Item.TheVariants.{Truth, Whole, Single, Double, Run, Fixed}
 
-abbrev pub datum : Item → Datum
+abbrev pub datum : Item (Bor (List ℕ)) → Datum
 datum (Truth b) = truth b
 datum (Whole z) = whole z
 datum (Single n) = single n

@@ -18,7 +18,7 @@ pub fn bytes_held(s: &[u8])
 }
 
 /// Shows that the item lies in its ranges.
-pub fn item_held(item: Item)
+pub fn item_held(item: Item<&[u8]>)
     ensures held { Held (datum item.entry) }
 {
     match item {

@@ -5,22 +5,22 @@
 
 ghost use Rattle.std.specs.Prelude.{◌≡◌, ℕ, ◌-◌, ◌^◌, ◌<◌, min, List, length, nat_lt};
 ghost use Rattle.carrier.specs.Items.{Datum, truth, whole, single, double, bulk, Laws};
-ghost use Rattle.carrier.specs.Meaning.{datum, case_of};
+ghost use Rattle.carrier.specs.Meaning.{datum, full, no_such_item, no_memory, case_of};
 ghost use Rattle.carrier.specs.Steps.{State, Puts, Takes, TakesFixed, TakesRun};
 
 pub mod held;
 
 use refusal::{Case, FieldId, Layer, Refusal};
 
-/// What goes through a carrier in one piece.
-#[derive(Clone, Copy)]
-pub enum Item<'a> {
+/// What goes through a carrier in one piece. A run and a fixed have bytes: borrowed, owned, or a place in other memory.
+#[derive(Clone, Copy, Drop)]
+pub enum Item<B> {
     Truth(bool),
     Whole(i64),
     Single(u32),
     Double(u64),
-    Run(&'a [u8]),
-    Fixed(&'a [u8]),
+    Run(B),
+    Fixed(B),
 }
 
 /// What a taker names: a kind, for a run the most bytes that it may have, for a fixed its length.
@@ -42,45 +42,52 @@ pub struct CarrierFault {
 }
 
 impl CarrierFault {
-    /// The fault as users see it.
-    pub fn case(self) -> Case
-        ensures its_case { result ≡ case_of self }
+    /// The carrier lacks room. A put takes nothing.
+    pub fn full() -> CarrierFault
+        ensures is { result ≡ full }
     {
-        Case {
-            refusal: self.refusal,
-            layer: Layer::Carrier,
-            field: FieldId(0),
-            taken: Some(self.taken),
+        CarrierFault {
+            refusal: Refusal::CarrierFull,
+            taken: 0,
+        }
+    }
+
+    /// No such item stands at the front of the row.
+    pub fn no_such_item(taken: u64) -> CarrierFault
+        ensures is { result ≡ no_such_item taken }
+    {
+        CarrierFault {
+            refusal: Refusal::NoSuchItem,
+            taken,
+        }
+    }
+
+    /// The lent memory is too small.
+    pub fn no_memory(taken: u64) -> CarrierFault
+        ensures is { result ≡ no_memory taken }
+    {
+        CarrierFault {
+            refusal: Refusal::ResultMemory,
+            taken,
         }
     }
 }
 
-// An item without a reference is made by a function.
-impl<'a> Item<'a> {
-    pub fn truth(b: bool) -> Item<'a>
-        ensures is { result ≡ Item.Truth b }
-    {
-        Item::Truth(b)
-    }
+/// The fault as users see it.
+impl From<CarrierFault> for Case {
+    ghost from_gives = { λ fault r. r ≡ case_of fault };
 
-    pub fn whole(z: i64) -> Item<'a>
-        ensures is { result ≡ Item.Whole z }
-    {
-        Item::Whole(z)
+    fn from(fault: CarrierFault) -> Case {
+        Case {
+            refusal: fault.refusal,
+            layer: Layer::Carrier,
+            field: FieldId(0),
+            taken: Some(fault.taken),
+        }
     }
+}
 
-    pub fn single(bits: u32) -> Item<'a>
-        ensures is { result ≡ Item.Single bits }
-    {
-        Item::Single(bits)
-    }
-
-    pub fn double(bits: u64) -> Item<'a>
-        ensures is { result ≡ Item.Double bits }
-    {
-        Item::Double(bits)
-    }
-
+impl<'a> Item<&'a [u8]> {
     /// The bytes of a run or a fixed.
     pub fn bulk(self) -> usize
         ensures its_bytes { result ≡ bulk (datum self.entry) }
@@ -104,7 +111,7 @@ pub trait Carrier {
     ghost laws: { Laws code };
 
     /// The length of the item's code.
-    fn price(&self, item: Item) -> u64
+    fn price(&self, item: Item<&[u8]>) -> u64
         ensures { result ≡ length (code (datum item.entry)) };
 
     /// Whether the row is not empty.
@@ -117,7 +124,7 @@ pub trait Carrier {
         ensures { result ≡ (state self.now).capacity - (state self.now).count };
 
     /// Adds the item's code to the row, or changes nothing where it is longer than the room.
-    fn put(&mut self, item: Item) -> Result<(), CarrierFault>
+    fn put(&mut self, item: Item<&[u8]>) -> Result<(), CarrierFault>
         ensures { Puts (code (datum item.entry)) result (state self.old) (state self.new) };
 
     fn take_truth(&mut self, taken: u64) -> Result<bool, CarrierFault>
