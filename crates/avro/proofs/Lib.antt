@@ -1,5 +1,4 @@
-pub mod Ends
-pub mod Groups
+pub mod Vars
 pub mod Writes
 pub mod Fronts
 pub mod Runs

@@ -1,13 +1,11 @@
 -- A run at the front of a row. Assumes nothing.
-use Rattle.std.proofs.Common.{◌≡◌, ℕ, ◌+◌, ◌-◌, ◌*◌, ◌/◌, ◌%◌, ◌^◌, ◌<◌, ◌≤◌, Bool, List, ◌++◌, length, take, drop, ℤ, sym, ap, ◌∙◌, subst, append_assoc, arith}
-use Rattle.std.proofs.lemmas.List.{length-append, length-drop, length-take-le, take_at, take-take, take-append-drop, drop-take, append_cancel_left}
-use borrow.Rule.Slice.PartMut.{post_of}
-use Rattle.std.proofs.lemmas.Slice.{drop-append-drop}
-use Rattle.carrier.specs.Items.{Datum, truth, whole, single, double, run, Held, Bytes, a_truth, a_whole, a_single, a_double, a_run, a_fixed}
-use Rattle.carrier.specs.Steps.{State, Taken, TookRun, None}
+use Rattle.std.proofs.Common.{◌≡◌, ℕ, ◌+◌, ◌-◌, ◌*◌, ◌/◌, ◌%◌, ◌^◌, ◌<◌, ◌≤◌, min, Bool, List, ◌++◌, length, map, take, drop, ℤ, sym, ap, ◌∙◌, subst, append_assoc, arith}
+use Rattle.std.proofs.lemmas.List.{length-append, length-drop, length-take-le, take_at, drop_at, map-id, take-take, take-append-drop, drop-take, append_cancel_left}
+use Rattle.carrier.specs.Items.{truth, whole, single, double, run, Held, Bytes, a_truth, a_whole, a_single, a_double, a_run, a_fixed}
+use Rattle.carrier.specs.Steps.{None}
+use Rattle.queue.specs.Fronts.{Copied}
 use Rattle.avro.specs.Avro.{groups, var, avro}
 use Rattle.avro.specs.Reading.{Read, Run}
-use Rattle.avro.specs.Places.{Gone}
 use Rattle.carrier.specs.declared.Kind.TheVariants as kind
 use Rattle.avro.specs.Codes.{small_64, groups_same}
 
@@ -36,27 +34,6 @@ module _ (s : List ℕ) (n at : ℕ) (r : Read 9 s n at) where
       let tail : drop at s ≡ bs ++ rest = append_cancel_left (var n) (drop at s) (bs ++ rest) (sym r.front ∙ f ∙ ap (λ m. var m ++ (bs ++ rest)) (sym same)) in
       (same, omega (arith, h.0, ap length tail, length-append bs rest, length-drop at s))
 
--- the code of d, which stood at the front, is gone
-pub gone_taken : (p : List ℕ) (d : Datum) (s t : State) → Held d → p ≡ avro d → Gone p s t → Taken avro d s t
-gone_taken p d s t h e g = record { held = h; few = g.few; row = g.row ∙ ap (λ l. l ++ t.row) e; capacity = g.capacity; count = g.count; drained = g.drained }
-
--- the run's bytes, ys, stand at the front of out, and the run is gone
-pub run_copied : (most : ℕ) (row out ys : List ℕ) (at len : ℕ) (s t : State) → len ≤ most → len ≤ length out → length row < 2 ^ 63 → Bytes ys → Run row at len → ys ≡ take (at + len - at) (drop at row) → Gone (take (at + len) row) s t → TookRun avro most len out (ys ++ post_of 0 (len - 0) out) s t
-run_copied most row out ys at len s t few fits small bytes r is k =
-    let size : at + len - at ≡ len = omega arith in
-    let none : len - 0 ≡ len = omega arith in
-    let body : ys ≡ take len (drop at row) = is ∙ ap (λ n. take n (drop at row)) size in
-    let long : length ys ≡ len = ap length body ∙ length-take-le len (drop at row) (rw length-drop (omega (arith, r.inside))) in
-    let front : take len (ys ++ post_of 0 (len - 0) out) ≡ ys = take_at ys (post_of 0 (len - 0) out) len long in
-    let code : take (at + len) row ≡ avro (run (take len (ys ++ post_of 0 (len - 0) out))) =
-    r.front ∙ ap (λ l. var (len * 2) ++ l) (sym body) ∙ ap (λ n. var (n * 2) ++ ys) (sym long) ∙ ap (λ l. avro (run l)) (sym front) in
-    record {
-      small = few;
-      fits = fits;
-      rest = ap (λ n. drop len (ys ++ post_of 0 n out)) none ∙ drop-append-drop len out ys len (omega arith) long;
-      taken = gone_taken (take (at + len) row) (run (take len (ys ++ post_of 0 (len - 0) out))) s t (subst (λ l. Held (run l)) (sym front) ((let e : length ys < 2 ^ 63 = omega (arith, r.inside) in e), bytes)) code k;
-    }
-
 -- no item of a kind stands at the front
 module _ (row : List ℕ) where
   pub none_truth : ((b : Bool) (rest : List ℕ) → row ≡ avro (truth b) ++ rest → ⊥) → None avro kind.Truth row
@@ -76,3 +53,22 @@ module _ (row : List ℕ) where
 
   pub none_fixed : (n : ℕ) → length row < n → None avro (kind.Fixed n) row
   none_fixed n short d rest (a_fixed {bs = bs} p) h e = omega (arith, ap length e, length-append bs rest)
+
+-- the run's bytes, ys, stand at the front of out
+pub run_copied : (row out ys : List ℕ) (most at len : ℕ) → len ≤ min most (length out) → length row < 2 ^ 63 → Bytes ys → Run row at len → ys ≡ take (at + len - at) (drop at row) → Copied avro (map (λ b. b) row) most len (at + len) out (ys ++ drop len out)
+run_copied row out ys most at len few small bytes r is =
+    let size : at + len - at ≡ len = omega arith in
+    let body : ys ≡ take len (drop at row) = is ∙ ap (λ n. take n (drop at row)) size in
+    let long : length ys ≡ len = ap length body ∙ length-take-le len (drop at row) (rw length-drop (omega (arith, r.inside))) in
+    let front : take len (ys ++ drop len out) ≡ ys = take_at ys (drop len out) len long in
+    let code : take (at + len) row ≡ avro (run (take len (ys ++ drop len out))) =
+    r.front ∙ ap (λ l. var (len * 2) ++ l) (sym body) ∙ ap (λ n. var (n * 2) ++ ys) (sym long) ∙ ap (λ l. avro (run l)) (sym front) in
+    record {
+      small = few;
+      rest = drop_at ys (drop len out) len long;
+      stands = record {
+        held = subst (λ l. Held (run l)) (sym front) ((let e : length ys < 2 ^ 63 = omega (arith, r.inside) in e), bytes);
+        long = sym (length-take-le (at + len) row r.inside) ∙ ap length code;
+        front = map-id row ∙ sym (take-append-drop (at + len) row) ∙ (λ i. code i ++ drop (at + len) (sym (map-id row) i));
+      };
+    }

@@ -1,5 +1,4 @@
 pub mod Avro
 pub mod Reading
 pub mod Codes
-pub mod Places
 pub mod Samples

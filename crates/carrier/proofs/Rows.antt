@@ -1,5 +1,5 @@
 -- Facts of each element of a list, and the codes of lists. Assumes nothing.
-use Rattle.std.proofs.Common.{ℕ, suc, ◌+◌, ◌<◌, ◌≤◌, List, [], ◌∷◌, ◌++◌, length, get_or, take, sym, subst, arith}
+use Rattle.std.proofs.Common.{ℕ, zero, suc, ◌+◌, ◌<◌, ◌≤◌, List, [], ◌∷◌, ◌++◌, length, get_or, take, drop, sym, subst, arith}
 use Rattle.std.proofs.lemmas.List.{take_more, take_all}
 use Rattle.carrier.specs.Items.{All}
 
@@ -17,3 +17,17 @@ all_all P xs i h p = subst (All P) (take_all i xs h) p
 pub all_each : {A : Type 0} (P : A → Type 0) (d : A) (xs : List A) → ((i : ℕ) → i < length xs → P (get_or xs i d)) → All P xs
 all_each P d [] p = tt
 all_each P d (x ∷ xs) p = (p 0 (omega arith), all_each P d xs (λ i h. p (suc i) (omega arith)))
+
+all_drop : {A : Type 0} (P : A → Type 0) (n : ℕ) (xs : List A) → All P xs → All P (drop n xs)
+all_drop P zero xs p = p
+all_drop P (suc n) [] p = tt
+all_drop P (suc n) (x ∷ xs) p = all_drop P n xs p.1
+
+all_take : {A : Type 0} (P : A → Type 0) (n : ℕ) (xs : List A) → All P xs → All P (take n xs)
+all_take P zero xs p = tt
+all_take P (suc n) [] p = tt
+all_take P (suc n) (x ∷ xs) p = (p.0, all_take P n xs p.1)
+
+-- n elements from the m-th on
+pub all_part : {A : Type 0} (P : A → Type 0) (m n : ℕ) (xs : List A) → All P xs → All P (take n (drop m xs))
+all_part P m n xs p = all_take P n (drop m xs) (all_drop P m xs p)
