@@ -1,4 +1,3 @@
 pub mod Vars
-pub mod Writes
 pub mod Fronts
 pub mod Runs

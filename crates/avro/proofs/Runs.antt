@@ -1,7 +1,7 @@
 -- A run at the front of a row. Assumes nothing.
-use Rattle.std.proofs.Common.{◌≡◌, ℕ, ◌+◌, ◌-◌, ◌*◌, ◌/◌, ◌%◌, ◌^◌, ◌<◌, ◌≤◌, min, Bool, List, ◌++◌, length, map, take, drop, ℤ, sym, ap, ◌∙◌, subst, append_assoc, arith}
+use Rattle.std.proofs.Common.{◌≡◌, ℕ, ◌+◌, ◌-◌, ◌*◌, ◌/◌, ◌%◌, ◌^◌, ◌<◌, ◌≤◌, min, List, ◌++◌, length, map, take, drop, ℤ, sym, ap, ◌∙◌, subst, append_assoc, arith}
 use Rattle.std.proofs.lemmas.List.{length-append, length-drop, length-take-le, take_at, drop_at, map-id, take-take, take-append-drop, drop-take, append_cancel_left}
-use Rattle.carrier.specs.Items.{truth, whole, single, double, run, Held, Bytes, a_truth, a_whole, a_single, a_double, a_run, a_fixed}
+use Rattle.carrier.specs.Items.{whole, run, Held, Bytes, a_whole, a_run}
 use Rattle.carrier.specs.Steps.{None}
 use Rattle.queue.specs.Fronts.{Copied}
 use Rattle.avro.specs.Avro.{groups, var, avro}
@@ -36,23 +36,11 @@ module _ (s : List ℕ) (n at : ℕ) (r : Read 9 s n at) where
 
 -- no item of a kind stands at the front
 module _ (row : List ℕ) where
-  pub none_truth : ((b : Bool) (rest : List ℕ) → row ≡ avro (truth b) ++ rest → ⊥) → None avro kind.Truth row
-  none_truth none d rest (a_truth {b = b}) h e = none b rest e
-
   pub none_whole : ((z : ℤ) (rest : List ℕ) → Held (whole z) → row ≡ avro (whole z) ++ rest → ⊥) → None avro kind.Whole row
   none_whole none d rest (a_whole {z = z}) h e = none z rest h e
 
-  pub none_single : ((n : ℕ) (rest : List ℕ) → row ≡ avro (single n) ++ rest → ⊥) → None avro kind.Single row
-  none_single none d rest (a_single {n = n}) h e = none n rest e
-
-  pub none_double : ((n : ℕ) (rest : List ℕ) → row ≡ avro (double n) ++ rest → ⊥) → None avro kind.Double row
-  none_double none d rest (a_double {n = n}) h e = none n rest e
-
   pub none_run : (most : ℕ) → ((bs rest : List ℕ) → Held (run bs) → length bs ≤ most → row ≡ avro (run bs) ++ rest → ⊥) → None avro (kind.Run most) row
   none_run most none d rest (a_run {bs = bs} p) h e = none bs rest h p e
-
-  pub none_fixed : (n : ℕ) → length row < n → None avro (kind.Fixed n) row
-  none_fixed n short d rest (a_fixed {bs = bs} p) h e = omega (arith, ap length e, length-append bs rest)
 
 -- the run's bytes, ys, stand at the front of out
 pub run_copied : (row out ys : List ℕ) (most at len : ℕ) → len ≤ min most (length out) → length row < 2 ^ 63 → Bytes ys → Run row at len → ys ≡ take (at + len - at) (drop at row) → Copied avro (map (λ b. b) row) most len (at + len) out (ys ++ drop len out)

@@ -26,8 +26,3 @@ pub record Run (s : List ℕ) (at len : ℕ) : Type 0 where
 abbrev pub FindsRun : ℕ → List ℕ → Option (ℕ × ℕ) → Type 0
 FindsRun most s (Some p) = (p.1 ≤ most) × Run s p.0 p.1
 FindsRun most s None = (bs rest : List ℕ) → Held (run bs) → length bs ≤ most → s ≢ avro (run bs) ++ rest
-
--- the code of an x stands at the front of s
-abbrev pub Front : {X : Type 0} → (X → List ℕ) → List ℕ → Option X → Type 0
-Front f s (Some x) = (length (f x) ≤ length s) × (take (length (f x)) s ≡ f x)
-Front {X} f s None = (x : X) (rest : List ℕ) → s ≢ f x ++ rest
