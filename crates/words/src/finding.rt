@@ -19,9 +19,13 @@ pub(crate) fn copy_bytes(words: &[u64], out: &mut [u8]) -> Option<()>
     ensures { CopiesBytes words.now result out.old out.new }
 {
     let front = words.get(..out.len())?;
+
+    // All of them first: where one is no byte, `out` stays as it was.
     if !front.iter().all(|w| *w <= u64::from(u8::MAX)) {
         return None;
     }
+
+    // By index: tried with `out.iter_mut().zip(front)`, after which a proof knows no element of `out`.
     for (i, w) in front.iter().enumerate() {
         out[i] = *w as u8;
     }

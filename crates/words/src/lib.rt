@@ -11,7 +11,7 @@ ghost use Rattle.carrier.specs.Items.{Laws};
 ghost use Rattle.queue.specs.Queues.{state_of};
 ghost use Rattle.words.specs.Words.{word_code};
 
-mod coded;
+mod coding;
 mod finding;
 mod writing;
 

@@ -1,17 +1,7 @@
 //! Words at the start of lent memory.
 
-ghost use Rattle.std.specs.Prelude.{◌≡◌, ◌++◌, length};
+ghost use Rattle.std.specs.Prelude.{◌++◌};
 ghost use Rattle.queue.specs.Fronts.{Writes};
-
-/// Writes a word for each byte.
-fn write_bytes(out: &mut [u64], bytes: &[u8])
-    requires { length out.old ≡ length bytes.now }
-    ensures { out.new ≡ bytes.now }
-{
-    for (i, b) in bytes.iter().enumerate() {
-        out[i] = u64::from(*b);
-    }
-}
 
 /// Writes the words of the head and a word for each byte, or nothing where they are too many. Answers how many they are.
 pub(crate) fn write_words(out: &mut [u64], head: &[u64], bytes: &[u8]) -> Option<usize>
@@ -22,6 +12,10 @@ pub(crate) fn write_words(out: &mut [u64], head: &[u64], bytes: &[u8]) -> Option
         return None;
     }
     out[..head.len()].copy_from_slice(head);
-    write_bytes(&mut out[head.len()..n], bytes);
+
+    // By index: tried with `out[..].iter_mut().zip(bytes)`, after which a proof knows no element of `out`.
+    for (i, b) in bytes.iter().enumerate() {
+        out[head.len() + i] = u64::from(*b);
+    }
     Some(n)
 }

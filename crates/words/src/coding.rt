@@ -49,8 +49,8 @@ impl Coding for Words {
     }
 
     fn find_single(row: &[u64]) -> Option<(u32, usize)> {
-        let word = word_behind(row, Tag::Single)?;
-        Some((u32::try_from(word).ok()?, 2))
+        let bits = u32::try_from(word_behind(row, Tag::Single)?).ok()?;
+        Some((bits, 2))
     }
 
     fn find_double(row: &[u64]) -> Option<(u64, usize)> {
