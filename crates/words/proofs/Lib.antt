@@ -1,4 +1,1 @@
-pub mod Parts
 pub mod Fronts
-pub mod Places
-pub mod Taking

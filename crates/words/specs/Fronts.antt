@@ -1,28 +1,23 @@
 -- What stands at the front of a row of words. Assumes nothing.
-use Rattle.std.specs.Prelude.{◌≡◌, ℕ, ◌^◌, ◌<◌, List, ◌∷◌, ◌++◌, length, drop, Some, None, Option, ◌≢◌}
-use Rattle.std.specs.Borrow.{Bor}
-use Rattle.carrier.specs.Items.{Datum, Held, Of, Bytes}
-use Rattle.carrier.specs.Steps as steps
-use Rattle.carrier.specs.declared.Kind.{Kind}
-use Rattle.words.specs.Words.{word_code}
+use Rattle.std.specs.Prelude.{◌≡◌, ℕ, ◌^◌, ◌<◌, ◌≤◌, List, ◌∷◌, ◌++◌, length, take, drop, slice_index, Some, None, Option, ◌≢◌, ◌⊎◌}
+use Rattle.carrier.specs.Items.{Bytes}
+use Rattle.words.specs.declared.Tag.{Tag}
+use Rattle.words.specs.declared.Tag.TheVariants.{Truth, Whole, Single, Double, Run, Fixed}
 
--- the word behind the kind's number, or no such two words
-abbrev pub Behind : ℕ → List ℕ → Option ℕ → Type 0
-Behind kind row (Some w) = (w < 2 ^ 64) × (row ≡ kind ∷ w ∷ drop 2 row)
-Behind kind row None = (w : ℕ) (rest : List ℕ) → row ≢ kind ∷ w ∷ rest
+abbrev pub number_of : Tag → ℕ
+number_of Truth = 0
+number_of Whole = 1
+number_of Single = 2
+number_of Double = 3
+number_of Run = 4
+number_of Fixed = 5
 
--- the first n words, which are bytes, or the first n words are no bytes
-abbrev pub FindsBytes : ℕ → List ℕ → Option (Bor (List ℕ)) → Type 0
-FindsBytes n words (Some b) = (length b.now ≡ n) × Bytes b.now × (words ≡ b.now ++ drop n words)
-FindsBytes n words None = (bs rest : List ℕ) → length bs ≡ n → Bytes bs → words ≢ bs ++ rest
+-- the word behind the tag's number; or there are no two words, or another number
+abbrev pub Behind : Tag → List ℕ → Option ℕ → Type 0
+Behind tag row (Some w) = (w < 2 ^ 64) × (row ≡ number_of tag ∷ w ∷ drop 2 row)
+Behind tag row None = (length row < 2) ⊎ (slice_index row 0 ≢ number_of tag)
 
--- the item, which is of the kind, stands in front
-pub record Stands (kind : Kind) (d : Datum) (row : List ℕ) : Type 0 where
-  pub of : Of kind d
-  pub held : Held d
-  pub rest : List ℕ
-  pub front : row ≡ word_code d ++ rest
-
-abbrev pub Finds : {X : Type 0} → Kind → (X → Datum) → List ℕ → Option X → Type 0
-Finds kind of row (Some x) = Stands kind (of x) row
-Finds kind of row None = steps.None word_code kind row
+-- the first words, as many as out has, went into all of it as bytes; or they are too few, or no bytes
+abbrev pub CopiesBytes : {X : Type 0} → List ℕ → Option X → List ℕ → List ℕ → Type 0
+CopiesBytes words (Some _) out out' = Bytes out' × (words ≡ out' ++ drop (length out) words)
+CopiesBytes words None out out' = (out' ≡ out) × (length out ≤ length words → Bytes (take (length out) words) → ⊥)
