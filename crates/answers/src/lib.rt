@@ -84,5 +84,5 @@ pub fn bad_line(out: &mut String, line: u64, bad: Bad) -> Result<(), AllocError>
     out.push_str("bad line ")?;
     number(out, line)?;
     out.push_str(": ")?;
-    out.push_str(bad.reason())
+    write!(out, "{bad}")
 }
