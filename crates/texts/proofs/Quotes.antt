@@ -3,7 +3,7 @@ use Rattle.std.proofs.Common.{◌≡◌, ℕ, zero, suc, Bool, true, false, cond
 use Rattle.std.specs.Option.{option_map}
 use Rattle.std.proofs.lemmas.Bool.{eq-eqb, ne_eqb, cases_eq}
 use Rattle.spelling.specs.Decimals.{and_some}
-use Rattle.texts.specs.Encoded.{onto, escape_of, front_of, if_none, quoted}
+use Rattle.texts.specs.Encoded.{onto, shown, escape_of, front_of, if_none, quoted}
 
 quoted_skip : (k : ℕ) (bs : List ℕ) → quoted k bs ≡ quoted 0 (drop k bs)
 unfolding quoted
@@ -29,6 +29,13 @@ plain : (b : ℕ) (bs rest : List ℕ) (x : ℕ) (t : Bool) → ◌≡◌ {A = F
 plain b bs rest x false e = cc
 plain b bs rest x true e = sym (read_alike _ _ e)
 
+pub plain_step : (b : ℕ) (bs : List ℕ) → (b ≡ 34 → ⊥) → (b ≡ 92 → ⊥) → quoted 0 (b ∷ bs) ≡ cond (shown b) (onto b (quoted 0 bs)) None
+unfolding quoted
+plain_step b bs p q = rw (ne_eqb b 34 p, ne_eqb b 92 q)
+
+front_plain : (b : ℕ) (bs : List ℕ) → (b ≡ 92 → ⊥) → front_of (b ∷ bs) ≡ cond (shown b) (Some (b, bs)) None
+front_plain b bs q = ap (λ t. cond {A = Front} t (option_map (λ x. (x, drop 3 bs)) (escape_of (b ∷ bs))) (cond (shown b) (Some (b, bs)) None)) (ne_eqb b 92 q)
+
 -- what is read of a text by its first byte
 pub quoted_front : (bs rest : List ℕ) (x : ℕ) → Some (x, rest) ≡ front_of bs → quoted 0 bs ≡ onto x (quoted 0 rest)
 unfolding quoted
@@ -37,7 +44,7 @@ quoted_front (b ∷ bs) rest x e = elim (cases_eq b 34) [
   | inl h ↦ let f : front_of (b ∷ bs) ≡ None = rw h refl in cc
   | inr n ↦ elim (cases_eq b 92) [
     | inl h ↦ rw (ne_eqb b 34 n, eq-eqb b 92 h) (escaped bs rest x (escape_of (b ∷ bs)) (rw (eq-eqb b 92 h) at e))
-    | inr m ↦ rw (ne_eqb b 34 n, ne_eqb b 92 m) (plain b bs rest x _ (rw (ne_eqb b 34 n, ne_eqb b 92 m) at e))
+    | inr m ↦ plain_step b bs n m ∙ plain b bs rest x (shown b) (e ∙ front_plain b bs m)
   ]
 ]
 
@@ -67,6 +74,6 @@ quoted_none (b ∷ bs) e n = elim (cases_eq b 34) [
   | inl h ↦ rw (eq-eqb b 34 h) (some_left b bs h n)
   | inr m ↦ elim (cases_eq b 92) [
     | inl h ↦ rw (ne_eqb b 34 m, eq-eqb b 92 h) (unescaped bs (escape_of (b ∷ bs)) (rw (eq-eqb b 92 h) at e))
-    | inr k ↦ rw (ne_eqb b 34 m, ne_eqb b 92 k) (unshown b bs _ (rw (ne_eqb b 34 m, ne_eqb b 92 k) at e))
+    | inr k ↦ plain_step b bs m k ∙ unshown b bs (shown b) (e ∙ front_plain b bs k)
   ]
 ]
