@@ -81,8 +81,5 @@ pub fn case(out: &mut String, case: Case) -> Result<(), AllocError>
 pub fn bad_line(out: &mut String, line: u64, bad: Bad) -> Result<(), AllocError>
     ensures added { Adds result (bad_text line bad) (string_bytes out.old) (string_bytes out.new) }
 {
-    out.push_str("bad line ")?;
-    number(out, line)?;
-    out.push_str(": ")?;
-    out.push_str(bad.reason())
+    write!(out, "bad line {line}: {bad}")
 }

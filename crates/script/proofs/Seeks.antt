@@ -1,10 +1,10 @@
 -- Keys that are read up to the word `find`. Assumes nothing.
-use Rattle.std.proofs.Common.{◌≡◌, ℕ, ◌<◌, Bool, true, false, cond, List, [], ◌∷◌, ◌++◌, length, Some, None, Ok, Err, codes, Option, Result, sym, refl, ap, ◌∙◌, append_assoc, arith}
+use Rattle.std.proofs.Common.{◌≡◌, ℕ, ◌<◌, ◌⊎◌, true, false, cond, List, [], ◌∷◌, ◌++◌, length, Some, None, Ok, Err, codes, Option, Result, sym, refl, ap, inl, inr, ◌∙◌, append_assoc, arith}
 use Rattle.std.specs.Str.{bytes_eq}
 use Rattle.spelling.specs.declared.bad.Bad.{Bad}
 use Rattle.script.specs.Lexing.{Tok, opening, closing, word}
 use Rattle.script.specs.Shapes.{and_then, an_argument}
-use Rattle.script.specs.Seeking.{Quest, alone, behind_all, last_in, seeks, so_far}
+use Rattle.script.specs.Seeking.{Quest, alone, behind_all, last_in, seeks}
 
 abbrev word_of : Result (List ℕ × List Tok) Bad → List ℕ
 word_of (Ok a) = a.0
@@ -30,19 +30,17 @@ module _ {V : Type 0} where
   behind_nothing (Ok (Some p)) = refl
   behind_nothing (Err e) = refl
 
-  pub behind_key : (fit : Bool) (xs : List V) (x : V) (o : Result (Option (Quest V)) Bad) → behind_all (so_far fit (xs ++ x ∷ [])) o ≡ behind_all (so_far fit xs) (behind_all (alone (Some x)) o)
-  behind_key true xs x (Ok None) = refl
-  behind_key true xs x (Ok (Some p)) = ap (λ l. Ok (Some (l, p.1))) (append_assoc xs (x ∷ []) p.0)
-  behind_key false xs x (Ok None) = refl
-  behind_key false xs x (Ok (Some p)) = refl
-  behind_key true xs x (Err e) = refl
-  behind_key false xs x (Err e) = refl
+  pub behind_key : (xs : List V) (x : V) (o : Result (Option (Quest V)) Bad) → behind_all (Some (xs ++ x ∷ [])) o ≡ behind_all (Some xs) (behind_all (alone (Some x)) o)
+  behind_key xs x (Ok None) = refl
+  behind_key xs x (Ok (Some p)) = ap (λ l. Ok (Some (l, p.1))) (append_assoc xs (x ∷ []) p.0)
+  behind_key xs x (Err e) = refl
 
-  pub behind_no_key : (fit : Bool) (xs ys : List V) (o : Result (Option (Quest V)) Bad) → behind_all (so_far false ys) o ≡ behind_all (so_far fit xs) (behind_all (alone None) o)
-  behind_no_key true xs ys (Ok q) = refl
-  behind_no_key false xs ys (Ok q) = refl
-  behind_no_key true xs ys (Err e) = refl
-  behind_no_key false xs ys (Err e) = refl
+  -- none, where what was read before is none or the key is
+  pub behind_no_key : (xs : Option (List V)) (k : Option V) (o : Result (Option (Quest V)) Bad) → (xs ≡ None) ⊎ (k ≡ None) → behind_all None o ≡ behind_all xs (behind_all (alone k) o)
+  behind_no_key None k (Ok q) h = refl
+  behind_no_key (Some xs) None (Ok q) h = refl
+  behind_no_key (Some xs) (Some k) (Ok q) h = elim h [ inl e ↦ cc | inr e ↦ cc ]
+  behind_no_key xs k (Err e) h = refl
 
   pub seeks_none : (read : List ℕ → Result (Option V) Bad) (ts : List Tok) (e : Bad) → an_argument ts ≡ Err e → seeks read ts ≡ Err e
   unfolding seeks

@@ -1,5 +1,7 @@
 -- Keys that are looked for: the words before `find`, and the one behind it. Assumes nothing.
-use Rattle.std.specs.Prelude.{ℕ, Bool, cond, List, [], ◌∷◌, ◌++◌, map, Some, None, Ok, Err, vec_items, codes, Option, Result}
+use Rattle.std.specs.Prelude.{ℕ, cond, List, [], ◌∷◌, ◌++◌, map, Some, None, Ok, Err, Vec, vec_items, codes, Option, Result}
+use Rattle.std.specs.Global.{Global}
+use Rattle.std.specs.Option.{option_map}
 use Rattle.std.specs.Str.{bytes_eq}
 use Rattle.spelling.specs.declared.bad.Bad.{Bad}
 use Rattle.spelling.specs.declared.bad.Bad.TheVariants.{MissingArgument, Brackets}
@@ -43,8 +45,8 @@ seeks read (closing ∷ ts) = Err Brackets
 seeks read (word w ∷ ts) = cond (bytes_eq w (codes "find")) (last_in read ts) (and_then (read w) (λ x. behind_all (alone x) (seeks read ts)))
 
 -- the keys so far, if all of them are keys
-abbrev pub so_far : {V : Type 0} → Bool → List V → Option (List V)
-so_far fit xs = cond fit (Some xs) None
+abbrev pub all_of : {K V : Type 0} → (K → V) → Option (Vec K Global) → Option (List V)
+all_of means ks = option_map (λ v. map means (vec_items v)) ks
 
 abbrev pub quest_of : {K V : Type 0} → (K → V) → Sought K → Quest V
 quest_of means s = (map means (vec_items s.among), means s.key)

@@ -22,11 +22,15 @@ abbrev pub and_then : {X Y : Type 0} → Result X Bad → (X → Result Y Bad) �
 and_then (Ok x) f = f x
 and_then (Err e) f = Err e
 
+-- a word, or the fault at the end of the line and the one at a bracket
+abbrev pub a_word_or : Bad → Bad → List Tok → Reading (List ℕ)
+a_word_or e b [] = Err e
+a_word_or e b (opening ∷ ts) = Err b
+a_word_or e b (closing ∷ ts) = Err b
+a_word_or e b (word w ∷ ts) = Ok (w, ts)
+
 abbrev pub an_argument : List Tok → Reading (List ℕ)
-an_argument [] = Err MissingArgument
-an_argument (opening ∷ ts) = Err Brackets
-an_argument (closing ∷ ts) = Err Brackets
-an_argument (word w ∷ ts) = Ok (w, ts)
+an_argument ts = a_word_or MissingArgument Brackets ts
 
 abbrev pub at_end : List Tok → Result (Unit {0}) Bad
 at_end [] = Ok tt
@@ -34,10 +38,7 @@ at_end (t ∷ ts) = Err TooMuch
 
 -- a word inside brackets
 abbrev pub a_word : Bad → List Tok → Reading (List ℕ)
-a_word e [] = Err Brackets
-a_word e (opening ∷ ts) = Err e
-a_word e (closing ∷ ts) = Err e
-a_word e (word w ∷ ts) = Ok (w, ts)
+a_word e ts = a_word_or Brackets e ts
 
 -- a closing bracket behind what was read
 abbrev pub a_close : {X : Type 0} → Bad → X → List Tok → Reading X

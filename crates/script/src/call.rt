@@ -108,20 +108,20 @@ fn opening_of(heap: Global, sort: &[u8], value: &[u8]) -> Result<Opening, Bad>
 }
 
 /// What stands behind `carrier`.
-fn read_opening(heap: Global, tokens: &mut Tokens) -> Result<Opening, Bad>
+fn read_opening(tokens: &mut Tokens) -> Result<Opening, Bad>
     ensures as_spelled { Meets opened result (opening_of (left tokens.old)) }
 {
     let sort = tokens.word()?;
     let value = tokens.word()?;
     tokens.end()?;
-    opening_of(heap, sort, value)
+    opening_of(tokens.heap, sort, value)
 }
 
 /// What stands behind `price`: one item.
-fn read_price(heap: Global, tokens: &mut Tokens) -> Result<Call, Bad>
+fn read_price(tokens: &mut Tokens) -> Result<Call, Bad>
     ensures as_spelled { Parses result (by_verb Verb.Price (left tokens.old)) }
 {
-    let Items { cells, bytes } = read_items(heap, tokens)?;
+    let Items { cells, bytes } = read_items(tokens)?;
     if cells.is_empty() {
         return Err(Bad::MissingArgument);
     }
@@ -132,11 +132,11 @@ fn read_price(heap: Global, tokens: &mut Tokens) -> Result<Call, Bad>
 }
 
 /// What stands behind the verb.
-fn read_call(heap: Global, verb: Verb, tokens: &mut Tokens) -> Result<Call, Bad>
+fn read_call(verb: Verb, tokens: &mut Tokens) -> Result<Call, Bad>
     ensures as_spelled { Parses result (by_verb verb (left tokens.old)) }
 {
     match verb {
-        Verb::Carrier => Ok(Call::Carrier(read_opening(heap, tokens)?)),
+        Verb::Carrier => Ok(Call::Carrier(read_opening(tokens)?)),
         Verb::Row => {
             tokens.end()?;
             Ok(Call::Row)
@@ -149,9 +149,9 @@ fn read_call(heap: Global, verb: Verb, tokens: &mut Tokens) -> Result<Call, Bad>
             tokens.end()?;
             Ok(Call::Waiting)
         }
-        Verb::Price => read_price(heap, tokens),
-        Verb::ItemPut => Ok(Call::ItemPut(read_items(heap, tokens)?)),
-        Verb::ItemTake => Ok(Call::ItemTake(read_kinds(heap, tokens)?)),
+        Verb::Price => read_price(tokens),
+        Verb::ItemPut => Ok(Call::ItemPut(read_items(tokens)?)),
+        Verb::ItemTake => Ok(Call::ItemTake(read_kinds(tokens)?)),
     }
 }
 
@@ -159,13 +159,13 @@ fn read_call(heap: Global, verb: Verb, tokens: &mut Tokens) -> Result<Call, Bad>
 pub fn parse(heap: Global, line: &[u8]) -> Result<Call, Bad>
     ensures as_spelled { Parses result (call_of (tokens_of (uncarried line.now))) }
 {
-    let mut tokens = Tokens::of(trimmed(line));
+    let mut tokens = Tokens::of(heap, trimmed(line));
     match tokens.next() {
-        Token::Word(w) => match pick(w, &VERBS) {
-            Some(verb) => read_call(heap, verb, &mut tokens),
+        Some(Token::Word(w)) => match pick(w, &VERBS) {
+            Some(verb) => read_call(verb, &mut tokens),
             None => Err(Bad::UnknownVerb),
         },
-        Token::End => Err(Bad::NoVerb),
+        None => Err(Bad::NoVerb),
         _ => Err(Bad::Brackets),
     }
 }

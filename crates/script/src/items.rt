@@ -155,39 +155,39 @@ pub(crate) fn sized_kind(pair: Pair) -> Result<Kind, Bad>
 }
 
 /// The items that stand up to the end of the line.
-pub(crate) fn read_items(heap: Global, tokens: &mut Tokens) -> Result<Items, Bad>
+pub(crate) fn read_items(tokens: &mut Tokens) -> Result<Items, Bad>
     ensures as_spelled { Listed result (items_of (left tokens.old)) }
 {
-    let mut cells = Vec::new(heap);
-    let mut bytes = Vec::new(heap);
+    let mut cells = Vec::new(tokens.heap);
+    let mut bytes = Vec::new(tokens.heap);
     loop {
         match tokens.next() {
-            Token::End => return Ok(Items { cells, bytes }),
-            Token::Open => {
+            None => return Ok(Items { cells, bytes }),
+            Some(Token::Open) => {
                 let pair = tokens.pair(Bad::NotAnItem)?;
                 let laid = cell(&mut bytes, pair)?;
                 cells.push(laid)?;
             }
-            Token::Close => return Err(Bad::Brackets),
-            Token::Word(_) => return Err(Bad::NotAnItem),
+            Some(Token::Close) => return Err(Bad::Brackets),
+            Some(Token::Word(_)) => return Err(Bad::NotAnItem),
         }
     }
 }
 
 /// The kinds that stand up to the end of the line.
-pub(crate) fn read_kinds(heap: Global, tokens: &mut Tokens) -> Result<Vec<Kind>, Bad>
+pub(crate) fn read_kinds(tokens: &mut Tokens) -> Result<Vec<Kind>, Bad>
     ensures as_spelled { Meets vec_items result (kinds_of (left tokens.old)) }
 {
-    let mut all = Vec::new(heap);
+    let mut all = Vec::new(tokens.heap);
     loop {
         match tokens.next() {
-            Token::End => return Ok(all),
-            Token::Open => {
+            None => return Ok(all),
+            Some(Token::Open) => {
                 let pair = tokens.pair(Bad::NotAKind)?;
                 all.push(sized_kind(pair)?)?;
             }
-            Token::Close => return Err(Bad::Brackets),
-            Token::Word(w) => all.push(plain_kind(w)?)?,
+            Some(Token::Close) => return Err(Bad::Brackets),
+            Some(Token::Word(w)) => all.push(plain_kind(w)?)?,
         }
     }
 }

@@ -34,9 +34,6 @@ impl Spelled for Name {
     fn read(heap: Global, word: &[u8]) -> Result<Option<Name>, Bad> {
         let mut text = Vec::new(heap);
         add_text(&mut text, word)?;
-        match Name::new(&text) {
-            Ok(name) => Ok(Some(name)),
-            Err(_) => Ok(None),
-        }
+        Ok(Name::new(&text).ok())
     }
 }

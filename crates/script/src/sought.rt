@@ -1,10 +1,10 @@
 //! Keys that are looked for: the words before `find`, and the one behind it. No verb reads them yet.
 
-ghost use Rattle.std.specs.Prelude.{◌≡◌, ℕ, List, map, Option as Maybe, Result as Outcome};
+ghost use Rattle.std.specs.Prelude.{◌≡◌, ℕ, List, Option as Maybe, Result as Outcome};
 ghost use Rattle.std.specs.Option.{option_map};
 ghost use Rattle.spelling.specs.declared.bad.Bad.{Bad as Reason};
 ghost use Rattle.script.specs.Cutting.{left};
-ghost use Rattle.script.specs.Seeking.{behind_all, last_in, quest_of, seeks, so_far};
+ghost use Rattle.script.specs.Seeking.{behind_all, last_in, quest_of, seeks, all_of};
 ghost use Rattle.script.specs.Shapes.{Meets};
 
 use crate::line::Tokens;
@@ -35,38 +35,30 @@ pub struct Sought<K> {
 
 /// The key behind `find`, which ends the line.
 fn read_last<K: Spelled>(
-    heap: Global,
     tokens: &mut Tokens,
-    among: Vec<K>,
-    fit: bool,
+    among: Option<Vec<K>>,
 ) -> Result<Option<Sought<K>>, Bad>
-    ensures as_spelled { Meets (option_map (quest_of K.Spelled.means)) result (behind_all (so_far fit (map K.Spelled.means among.items)) (last_in K.Spelled.spelled (left tokens.old))) }
+    ensures as_spelled { Meets (option_map (quest_of K.Spelled.means)) result (behind_all (all_of K.Spelled.means among) (last_in K.Spelled.spelled (left tokens.old))) }
 {
     let word = tokens.word()?;
     tokens.end()?;
-    match K::read(heap, word)? {
-        Some(key) if fit => Ok(Some(Sought { among, key })),
-        _ => Ok(None),
-    }
+    let key = K::read(tokens.heap, word)?;
+    Ok(among.zip(key).map(|(among, key)| Sought { among, key }))
 }
 
 /// The keys up to `find`, and the one behind it. None where a word is well formed and spells no key.
-pub(crate) fn read_sought<K: Spelled>(
-    heap: Global,
-    tokens: &mut Tokens,
-) -> Result<Option<Sought<K>>, Bad>
+pub(crate) fn read_sought<K: Spelled>(tokens: &mut Tokens) -> Result<Option<Sought<K>>, Bad>
     ensures as_spelled { Meets (option_map (quest_of K.Spelled.means)) result (seeks K.Spelled.spelled (left tokens.old)) }
 {
-    let mut among = Vec::new(heap);
-    let mut fit = true;
+    let mut among = Some(Vec::new(tokens.heap));
     loop {
         let word = tokens.word()?;
         if is(word, "find") {
-            return read_last(heap, tokens, among, fit);
+            return read_last(tokens, among);
         }
-        match K::read(heap, word)? {
-            None => fit = false,
-            Some(key) => among.push(key)?,
+        match (K::read(tokens.heap, word)?, &mut among) {
+            (Some(key), Some(keys)) => keys.push(key)?,
+            _ => among = None,
         }
     }
 }

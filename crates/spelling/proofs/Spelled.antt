@@ -1,8 +1,8 @@
 -- Numbers that are read digit by digit. Assumes nothing.
-use Rattle.std.proofs.Common.{◌≡◌, ℕ, zero, suc, ◌+◌, ◌*◌, ◌^◌, ◌<◌, ◌≤◌, List, [], ◌∷◌, length, get_or, drop, Some, None, Option, refl, ap, ◌∙◌, arith}
+use Rattle.std.proofs.Common.{◌≡◌, ℕ, ◌+◌, ◌*◌, ◌<◌, ◌≤◌, List, [], ◌∷◌, length, get_or, drop, Some, None, Option, refl, ap, ◌∙◌, arith}
 use Rattle.std.proofs.lemmas.List.{drop_more, drop_all}
-use Rattle.std.proofs.lemmas.Bool.{le-ltb, lt-ltb, eq-eqb}
-use Rattle.spelling.specs.Decimals.{digit_of, and_some, decimal_after, decimal_of, under, minus, fitting, signed_of}
+use Rattle.std.proofs.lemmas.Bool.{le-ltb, lt-ltb}
+use Rattle.spelling.specs.Decimals.{digit_of, and_some, decimal_after, decimal_of, under}
 
 over_digit : (m n : ℕ) (o : Option ℕ) (bs : List ℕ) → ((d : ℕ) → under m (decimal_after (n * 10 + d) bs) ≡ None) → under m (and_some o (λ d. decimal_after (n * 10 + d) bs)) ≡ None
 over_digit m n None bs h = refl
@@ -35,20 +35,3 @@ read_all m n word i h k = ap (λ l. under m (decimal_after n l)) (drop_all i wor
 pub read_start : (word : List ℕ) → 0 < length word → decimal_after 0 word ≡ decimal_of word
 read_start [] h = absurd (omega arith)
 read_start (b ∷ bs) h = refl
-
--- a minus before the digits
-pub minus_word : (word : List ℕ) → 0 < length word → get_or word 0 0 ≡ 45 → signed_of word ≡ and_some (decimal_of (drop 1 word)) (λ n. fitting (minus n))
-minus_word [] h e = absurd (omega arith)
-minus_word (b ∷ bs) h e = rw (eq-eqb b 45 e)
-
-pub minus_some : (o : Option ℕ) (n : ℕ) → Some n ≡ under (2 ^ 64) o → and_some o (λ n. fitting (minus n)) ≡ fitting (minus n)
-minus_some None n e = let z : ◌≡◌ {A = ℕ} 0 1 = cc in absurd (omega arith)
-minus_some (Some m) n e = let s : m ≡ n = grind arith in ap (λ n. fitting (minus n)) s
-
-minus_large : (n : ℕ) → 2 ^ 64 ≤ n → fitting (minus n) ≡ None
-minus_large zero h = absurd (omega arith)
-minus_large (suc n) h = rw (le-ltb n (2 ^ 63) (omega arith))
-
-pub minus_none : (o : Option ℕ) → None ≡ under (2 ^ 64) o → and_some o (λ n. fitting (minus n)) ≡ None
-minus_none None e = refl
-minus_none (Some m) e = minus_large m (grind arith)

@@ -1,6 +1,7 @@
 -- The numbers that words spell. Assumes nothing.
-use Rattle.std.specs.Prelude.{ℕ, ◌+◌, ◌-◌, ◌*◌, ◌^◌, cond, ◌&&◌, List, [], ◌∷◌, ℤ, pos, neg_ℤ, Some, None, Option, ◌==◌, nat_le, nat_lt}
+use Rattle.std.specs.Prelude.{◌≡◌, ℕ, ◌+◌, ◌-◌, ◌*◌, ◌^◌, cond, ◌&&◌, List, [], ◌∷◌, ℤ, pos, neg_ℤ, Some, None, Option, Result, ◌==◌, nat_le, nat_lt}
 use Rattle.std.specs.Int.Signed.{mag}
+use Rattle.std.specs.Result.{result_ok}
 
 abbrev pub digit_of : ℕ → Option ℕ
 digit_of b = cond (nat_le 48 b && nat_le b 57) (Some (b - 48)) None
@@ -23,6 +24,11 @@ decimal_of (b ∷ bs) = decimal_after 0 (b ∷ bs)
 abbrev pub under : ℕ → Option ℕ → Option ℕ
 under m None = None
 under m (Some n) = cond (nat_lt n m) (Some n) None
+
+-- what another type makes of the number, if there is one
+abbrev pub Converts : {X E : Type 0} → (ℕ → Result X E → Type 0) → Option ℕ → Option X → Type 0
+Converts gives None r = r ≡ None
+Converts {X} {E} gives (Some n) r = (x : Result X E) × gives n x × (r ≡ result_ok x)
 
 -- 64 bits with a sign hold it
 abbrev pub fitting : ℤ → Option ℤ

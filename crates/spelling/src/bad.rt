@@ -1,13 +1,15 @@
 //! Why a line is no call.
 
-ghost use Rattle.std.specs.Prelude.{◌≡◌};
+ghost use Rattle.std.specs.Prelude.{◌≡◌, Some};
 ghost use Rattle.spelling.specs.Reasons.{reason_of};
 ghost use Rattle.spelling.specs.declared.bad.Bad.TheVariants.{NoMemory};
 
 use std::alloc::{AllocError, AllocFailed};
+use std::error::Error;
+use std::fmt;
 
 /// The reasons, each of which stands behind `bad line N: `.
-#[derive(Clone, Copy)]
+#[derive(Clone, Copy, Debug, PartialEq, Eq)]
 pub enum Bad {
     NoVerb,
     UnknownVerb,
@@ -25,12 +27,12 @@ pub enum Bad {
     NoCarrier,
 }
 
-impl Bad {
-    /// The reason in words, for people.
-    pub fn reason(self) -> &'static str
-        ensures in_words { result.now ≡ reason_of self }
-    {
-        match self {
+/// The reason in words, for people.
+impl fmt::Display for Bad {
+    ghost output = { λ b. Some (reason_of b) };
+
+    fn fmt<W: fmt::Write>(&self, f: &mut fmt::Formatter<W>) -> fmt::Result {
+        f.write_str(match self {
             Bad::NoVerb => "the line has no verb",
             Bad::UnknownVerb => "unknown verb",
             Bad::MissingArgument => "an argument is missing",
@@ -45,9 +47,11 @@ impl Bad {
             Bad::TooMuch => "too much on the line",
             Bad::NoMemory => "no memory",
             Bad::NoCarrier => "no carrier is open",
-        }
+        })
     }
 }
+
+impl Error for Bad {}
 
 impl From<AllocError> for Bad {
     ghost from_gives = { λ _ r. r ≡ NoMemory };

@@ -31,10 +31,5 @@ pub fn is(word: &[u8], name: &str) -> bool
 pub fn pick<T: Named + Copy>(word: &[u8], all: &[T]) -> Option<T>
     ensures first_so_called { result ≡ lookup T.called word.now all.now }
 {
-    for x in all {
-        if is(word, x.name()) {
-            return Some(*x);
-        }
-    }
-    None
+    all.iter().find(|x| is(word, x.name())).copied()
 }

@@ -1,13 +1,14 @@
 -- Hex digits, read one by one and in pairs. Assumes nothing.
-use Rattle.std.proofs.Common.{◌≡◌, ℕ, ◌+◌, ◌*◌, ◌^◌, ◌<◌, ◌≤◌, List, [], ◌∷◌, ◌++◌, length, get_or, drop, Some, None, Option, sym, refl, ap, ◌∙◌, arith}
+use Rattle.std.proofs.Common.{◌≡◌, ℕ, ◌+◌, ◌*◌, ◌^◌, ◌<◌, ◌≤◌, List, [], ◌∷◌, ◌++◌, length, get_or, drop, Some, None, Err, Option, sym, refl, ap, ◌∙◌, arith}
 use native.Mathlib.Nat.{pow-le-pow_right}
-use Rattle.std.specs.Option.{option_map}
+use Rattle.std.specs.Option.{ok_or, option_map}
 use Rattle.std.proofs.lemmas.Nat.{pow-add}
 use Rattle.std.proofs.lemmas.List.{drop_more, drop_all, append_assoc, append-nil}
 use Rattle.std.proofs.lemmas.Bool.{eq-eqb}
 use Rattle.std.proofs.lemmas.Bool.Decides.{nat_tests}
 use Rattle.spelling.specs.Decimals.{and_some}
-use Rattle.texts.specs.Encoded.{hex_digit, byte_of, onto, pairs_of, bytes_of, hex_after, bits_of}
+use Rattle.spelling.specs.declared.bad.Bad.{Bad}
+use Rattle.texts.specs.Encoded.{hex_digit, byte_of, onto, pairs_of, hex_after, bits_of}
 
 hex_small : (b d : ℕ) → Some d ≡ hex_digit b → d < 16
 hex_small b d e = grind (arith, nat_tests)
@@ -39,6 +40,10 @@ pub onto_push : (out : List ℕ) (x : ℕ) (o : Option (List ℕ)) → option_ma
 onto_push out x None = refl
 onto_push out x (Some xs) = ap Some (append_assoc out (x ∷ []) xs)
 
+pub refused : {X : Type 0} (o : Option X) (d e : Bad) → Err d ≡ ok_or o e → d ≡ e
+refused None d e h = cc
+refused (Some x) d e h = cc
+
 pub mapped_none : (out : List ℕ) (o : Option (List ℕ)) → option_map (λ xs. out ++ xs) o ≡ None → o ≡ None
 mapped_none out None e = refl
 mapped_none out (Some xs) e = let z : ◌≡◌ {A = ℕ} 0 1 = cc in absurd (omega arith)
@@ -46,31 +51,27 @@ mapped_none out (Some xs) e = let z : ◌≡◌ {A = ℕ} 0 1 = cc in absurd (om
 pub mapped_nil : (out : List ℕ) → option_map (λ xs. out ++ xs) (Some []) ≡ Some out
 mapped_nil out = ap Some (append-nil out)
 
-pub bytes_word : (word : List ℕ) → 0 < length word → get_or word 0 0 ≡ 120 → bytes_of word ≡ pairs_of (drop 1 word)
-bytes_word [] l e = absurd (omega arith)
-bytes_word (b ∷ bs) l e = rw (eq-eqb b 120 e)
-
-module _ (word : List ℕ) (i : ℕ) where
-  two : i + 1 < length word → drop i word ≡ get_or word i 0 ∷ get_or word (i + 1) 0 ∷ drop (i + 2) word
-  two h = drop_more word i 0 (omega arith) ∙ ap (λ l. get_or word i 0 ∷ l) (drop_more word (i + 1) 0 h ∙ ap (λ n. get_or word (i + 1) 0 ∷ drop n word) (omega arith))
-
-  pairs_step : i + 1 < length word → pairs_of (drop i word) ≡ and_some (byte_of (get_or word i 0) (get_or word (i + 1) 0)) (λ x. onto x (pairs_of (drop (i + 2) word)))
+module _ (word : List ℕ) where
+  pairs_step : 2 ≤ length word → pairs_of word ≡ and_some (byte_of (get_or word 0 0) (get_or word 1 0)) (λ x. onto x (pairs_of (drop 2 word)))
   unfolding pairs_of
-  pairs_step h = ap pairs_of (two h)
+  pairs_step h = ap pairs_of (drop_more word 0 0 (omega arith) ∙ ap (λ l. get_or word 0 0 ∷ l) (drop_more word 1 0 (omega arith)))
 
-  pub pairs_none : i + 1 < length word → None ≡ byte_of (get_or word i 0) (get_or word (i + 1) 0) → pairs_of (drop i word) ≡ None
-  pairs_none h e = pairs_step h ∙ ap (λ o. and_some o (λ x. onto x (pairs_of (drop (i + 2) word)))) (sym e)
+  pub pairs_none : 2 ≤ length word → None ≡ byte_of (get_or word 0 0) (get_or word 1 0) → pairs_of word ≡ None
+  pairs_none h e = pairs_step h ∙ ap (λ o. and_some o (λ x. onto x (pairs_of (drop 2 word)))) (sym e)
 
-  pub pairs_more : (x : ℕ) → i + 1 < length word → Some x ≡ byte_of (get_or word i 0) (get_or word (i + 1) 0) → pairs_of (drop i word) ≡ onto x (pairs_of (drop (i + 2) word))
-  pairs_more x h e = pairs_step h ∙ ap (λ o. and_some o (λ x. onto x (pairs_of (drop (i + 2) word)))) (sym e)
+  pub pairs_more : (x : ℕ) → 2 ≤ length word → Some x ≡ byte_of (get_or word 0 0) (get_or word 1 0) → pairs_of word ≡ onto x (pairs_of (drop 2 word))
+  pairs_more x h e = pairs_step h ∙ ap (λ o. and_some o (λ x. onto x (pairs_of (drop 2 word)))) (sym e)
 
-  pub pairs_odd : i + 1 ≡ length word → pairs_of (drop i word) ≡ None
-  unfolding pairs_of
-  pairs_odd h = ap pairs_of (drop_more word i 0 (omega arith) ∙ ap (λ l. get_or word i 0 ∷ l) (drop_all (i + 1) word (omega arith)))
+pub pairs_odd : (word : List ℕ) → length word ≡ 1 → pairs_of word ≡ None
+unfolding pairs_of
+pairs_odd [] h = absurd (omega arith)
+pairs_odd (b ∷ []) h = refl
+pairs_odd (b ∷ c ∷ bs) h = absurd (omega arith)
 
-  pub pairs_all : length word ≤ i → pairs_of (drop i word) ≡ Some []
-  unfolding pairs_of
-  pairs_all h = ap pairs_of (drop_all i word h)
+pub pairs_all : (word : List ℕ) → length word ≡ 0 → pairs_of word ≡ Some []
+unfolding pairs_of
+pairs_all [] h = refl
+pairs_all (b ∷ bs) h = absurd (omega arith)
 
 pub hex_fits : (n i k : ℕ) → n < 16 ^ i → i < k → k ≤ 16 → n * 16 + 15 < 2 ^ 64
 hex_fits n i k h l m =

@@ -1,12 +1,9 @@
 -- Texts in quotes, read byte by byte. Assumes nothing.
-use Rattle.std.proofs.Common.{◌≡◌, ℕ, zero, suc, ◌+◌, ◌<◌, ◌≤◌, true, false, cond, List, [], ◌∷◌, ◌++◌, length, get_or, drop, Some, None, sym, refl, ap, ◌∙◌, arith}
+use Rattle.std.proofs.Common.{◌≡◌, ℕ, zero, suc, Bool, true, false, cond, List, [], ◌∷◌, length, get_or, drop, Some, None, Option, sym, refl, ap, ◌∙◌, inl, inr, arith}
 use Rattle.std.specs.Option.{option_map}
-use Rattle.std.proofs.lemmas.List.{drop_more, drop_all, drop-drop, length-drop}
-use Rattle.std.proofs.lemmas.Bool.{eq-eqb, ne_eqb}
-use Rattle.std.proofs.lemmas.Bool.Decides.{nat_tests}
+use Rattle.std.proofs.lemmas.Bool.{eq-eqb, ne_eqb, cases_eq}
 use Rattle.spelling.specs.Decimals.{and_some}
-use Rattle.texts.specs.Encoded.{onto, shown, escape_of, if_none, quoted, text_of}
-use Rattle.texts.proofs.Digits.{mapped_none}
+use Rattle.texts.specs.Encoded.{onto, shown, escape_of, front_of, if_none, quoted}
 
 quoted_skip : (k : ℕ) (bs : List ℕ) → quoted k bs ≡ quoted 0 (drop k bs)
 unfolding quoted
@@ -14,62 +11,69 @@ quoted_skip zero bs = refl
 quoted_skip (suc k) [] = refl
 quoted_skip (suc k) (b ∷ bs) = quoted_skip k bs
 
-pub text_word : (word : List ℕ) → 0 < length word → get_or word 0 0 ≡ 34 → text_of word ≡ quoted 0 (drop 1 word)
-text_word [] l e = absurd (omega arith)
-text_word (b ∷ bs) l e = rw (eq-eqb b 34 e)
+abbrev Front : Type 0
+Front = Option (ℕ × List ℕ)
 
--- an escape has four bytes
-pub escape_long : (bs : List ℕ) (x : ℕ) → Some x ≡ escape_of bs → 4 ≤ length bs
-escape_long bs x e = grind (arith, nat_tests)
+read_on : Front → Option (List ℕ)
+read_on o = and_some o (λ p. onto p.0 (quoted 0 p.1))
+
+read_alike : (p q : ℕ × List ℕ) → Some p ≡ Some q → onto p.0 (quoted 0 p.1) ≡ onto q.0 (quoted 0 q.1)
+unfolding read_on
+read_alike p q e = ap read_on e
+
+escaped : (bs rest : List ℕ) (x : ℕ) (o : Option ℕ) → ◌≡◌ {A = Front} (Some (x, rest)) (option_map (λ y. (y, drop 3 bs)) o) → and_some o (λ y. onto y (quoted 3 bs)) ≡ onto x (quoted 0 rest)
+escaped bs rest x None e = cc
+escaped bs rest x (Some y) e = ap (onto y) (quoted_skip 3 bs) ∙ sym (read_alike _ _ e)
+
+plain : (b : ℕ) (bs rest : List ℕ) (x : ℕ) (t : Bool) → ◌≡◌ {A = Front} (Some (x, rest)) (cond t (Some (b, bs)) None) → cond t (onto b (quoted 0 bs)) None ≡ onto x (quoted 0 rest)
+plain b bs rest x false e = cc
+plain b bs rest x true e = sym (read_alike _ _ e)
 
 pub plain_step : (b : ℕ) (bs : List ℕ) → (b ≡ 34 → ⊥) → (b ≡ 92 → ⊥) → quoted 0 (b ∷ bs) ≡ cond (shown b) (onto b (quoted 0 bs)) None
 unfolding quoted
 plain_step b bs p q = rw (ne_eqb b 34 p, ne_eqb b 92 q)
 
-escape_step : (bs : List ℕ) → quoted 0 (92 ∷ bs) ≡ and_some (escape_of (92 ∷ bs)) (λ x. onto x (quoted 3 bs))
+front_plain : (b : ℕ) (bs : List ℕ) → (b ≡ 92 → ⊥) → front_of (b ∷ bs) ≡ cond (shown b) (Some (b, bs)) None
+front_plain b bs q = ap (λ t. cond {A = Front} t (option_map (λ x. (x, drop 3 bs)) (escape_of (b ∷ bs))) (cond (shown b) (Some (b, bs)) None)) (ne_eqb b 92 q)
+
+-- what is read of a text by its first byte
+pub quoted_front : (bs rest : List ℕ) (x : ℕ) → Some (x, rest) ≡ front_of bs → quoted 0 bs ≡ onto x (quoted 0 rest)
 unfolding quoted
-escape_step bs = refl
+quoted_front [] rest x e = cc
+quoted_front (b ∷ bs) rest x e = elim (cases_eq b 34) [
+  | inl h ↦ let f : front_of (b ∷ bs) ≡ None = rw h refl in cc
+  | inr n ↦ elim (cases_eq b 92) [
+    | inl h ↦ rw (ne_eqb b 34 n, eq-eqb b 92 h) (escaped bs rest x (escape_of (b ∷ bs)) (rw (eq-eqb b 92 h) at e))
+    | inr m ↦ plain_step b bs n m ∙ plain b bs rest x (shown b) (e ∙ front_plain b bs m)
+  ]
+]
 
-quote_step : (bs : List ℕ) → quoted 0 (34 ∷ bs) ≡ if_none bs
+-- the quote ends the text
+pub quoted_end : (bs : List ℕ) → length bs ≡ 1 → get_or bs 0 0 ≡ 34 → quoted 0 bs ≡ Some []
 unfolding quoted
-quote_step bs = refl
+quoted_end [] l e = absurd (omega arith)
+quoted_end (b ∷ []) l e = rw (eq-eqb b 34 e)
+quoted_end (b ∷ c ∷ bs) l e = absurd (omega arith)
 
-some_left : (bs : List ℕ) → 0 < length bs → if_none bs ≡ None
-some_left [] h = absurd (omega arith)
-some_left (b ∷ bs) h = refl
+unshown : (b : ℕ) (bs : List ℕ) (t : Bool) → ◌≡◌ {A = Front} None (cond t (Some (b, bs)) None) → cond t (onto b (quoted 0 bs)) None ≡ None
+unshown b bs false e = refl
+unshown b bs true e = cc
 
-module _ (word : List ℕ) (i : ℕ) (inside : i < length word) where
-  at : (b : ℕ) → get_or word i 0 ≡ b → drop i word ≡ b ∷ drop (i + 1) word
-  at b e = drop_more word i 0 inside ∙ ap (λ x. x ∷ drop (i + 1) word) e
+unescaped : (bs : List ℕ) (o : Option ℕ) → ◌≡◌ {A = Front} None (option_map (λ y. (y, drop 3 bs)) o) → and_some o (λ y. onto y (quoted 3 bs)) ≡ None
+unescaped bs None e = refl
+unescaped bs (Some y) e = cc
 
-  pub text_shown : (get_or word i 0 ≡ 34 → ⊥) → (get_or word i 0 ≡ 92 → ⊥) → true ≡ shown (get_or word i 0) → quoted 0 (drop i word) ≡ onto (get_or word i 0) (quoted 0 (drop (i + 1) word))
-  text_shown p q e = ap (quoted 0) (at (get_or word i 0) refl) ∙ plain_step (get_or word i 0) (drop (i + 1) word) p q ∙ ap (λ t. cond t (onto (get_or word i 0) (quoted 0 (drop (i + 1) word))) None) (sym e)
+some_left : (b : ℕ) (bs : List ℕ) → b ≡ 34 → (length (b ∷ bs) ≡ 1 → b ≡ 34 → ⊥) → if_none bs ≡ None
+some_left b [] e n = absurd (n refl e)
+some_left b (c ∷ bs) e n = refl
 
-  pub text_not_shown : (get_or word i 0 ≡ 34 → ⊥) → (get_or word i 0 ≡ 92 → ⊥) → false ≡ shown (get_or word i 0) → quoted 0 (drop i word) ≡ None
-  text_not_shown p q e = ap (quoted 0) (at (get_or word i 0) refl) ∙ plain_step (get_or word i 0) (drop (i + 1) word) p q ∙ ap (λ t. cond t (onto (get_or word i 0) (quoted 0 (drop (i + 1) word))) None) (sym e)
-
-  escape_at : get_or word i 0 ≡ 92 → quoted 0 (drop i word) ≡ and_some (escape_of (drop i word)) (λ x. onto x (quoted 3 (drop (i + 1) word)))
-  escape_at e = ap (quoted 0) (at 92 e) ∙ escape_step (drop (i + 1) word) ∙ sym (ap (λ l. and_some (escape_of l) (λ x. onto x (quoted 3 (drop (i + 1) word)))) (at 92 e))
-
-  pub text_escape : (x : ℕ) → get_or word i 0 ≡ 92 → Some x ≡ escape_of (drop i word) → quoted 0 (drop i word) ≡ onto x (quoted 0 (drop (i + 4) word))
-  text_escape x e s =
-      escape_at e ∙ ap (λ o. and_some o (λ x. onto x (quoted 3 (drop (i + 1) word)))) (sym s)
-      ∙ ap (onto x) (quoted_skip 3 (drop (i + 1) word) ∙ ap (quoted 0) (drop-drop 3 (i + 1) word ∙ ap (λ n. drop n word) (omega arith)))
-
-  pub text_no_escape : get_or word i 0 ≡ 92 → None ≡ escape_of (drop i word) → quoted 0 (drop i word) ≡ None
-  text_no_escape e s = escape_at e ∙ ap (λ o. and_some o (λ x. onto x (quoted 3 (drop (i + 1) word)))) (sym s)
-
-  pub text_end : get_or word i 0 ≡ 34 → i + 1 ≡ length word → quoted 0 (drop i word) ≡ Some []
-  text_end e l = ap (quoted 0) (at 34 e) ∙ quote_step (drop (i + 1) word) ∙ ap if_none (drop_all (i + 1) word (omega arith))
-
-  pub text_more : get_or word i 0 ≡ 34 → (i + 1 ≡ length word → ⊥) → quoted 0 (drop i word) ≡ None
-  text_more e l = ap (quoted 0) (at 34 e) ∙ quote_step (drop (i + 1) word) ∙ some_left (drop (i + 1) word) (simp length-drop (omega arith))
-
-pub text_open : (word : List ℕ) (i : ℕ) → length word ≤ i → quoted 0 (drop i word) ≡ None
+pub quoted_none : (bs : List ℕ) → None ≡ front_of bs → (length bs ≡ 1 → get_or bs 0 0 ≡ 34 → ⊥) → quoted 0 bs ≡ None
 unfolding quoted
-text_open word i h = ap (quoted 0) (drop_all i word h)
-
--- what is left spells nothing, so the whole does not
-pub text_none : (out start word : List ℕ) (i : ℕ) → 0 < length word → get_or word 0 0 ≡ 34 → option_map (λ xs. out ++ xs) (quoted 0 (drop i word)) ≡ option_map (λ xs. start ++ xs) (quoted 0 (drop 1 word))
-    → quoted 0 (drop i word) ≡ None → text_of word ≡ None
-text_none out start word i l q v e = text_word word l q ∙ mapped_none start (quoted 0 (drop 1 word)) (sym v ∙ ap (option_map (λ xs. out ++ xs)) e)
+quoted_none [] e n = refl
+quoted_none (b ∷ bs) e n = elim (cases_eq b 34) [
+  | inl h ↦ rw (eq-eqb b 34 h) (some_left b bs h n)
+  | inr m ↦ elim (cases_eq b 92) [
+    | inl h ↦ rw (ne_eqb b 34 m, eq-eqb b 92 h) (unescaped bs (escape_of (b ∷ bs)) (rw (eq-eqb b 92 h) at e))
+    | inr k ↦ plain_step b bs m k ∙ unshown b bs (shown b) (e ∙ front_plain b bs k)
+  ]
+]

@@ -1,48 +1,45 @@
-use Rattle.std.proofs.Common.{◌≡◌, ℕ, ◌+◌, ◌<◌, List, ◌++◌, length, drop, None, vec_items, sym, refl, ap, ◌∙◌, inr, arith}
+use Rattle.std.proofs.Common.{◌≡◌, ℕ, List, ◌++◌, drop, None, vec_items, sym, refl, ap, ◌∙◌, inr, arith}
 use Rattle.std.specs.Option.{option_map}
-use Rattle.std.proofs.lemmas.Bool.{eqb-false}
+use Rattle.std.proofs.lemmas.List.{take_rest}
+use Rattle.std.proofs.lemmas.Bool.{eqb-true, eqb-false}
+use Rattle.std.proofs.lemmas.Result.{err_from_is_err_and}
 use Rattle.texts.specs.Encoded.{pairs_of, bytes_of}
-use Rattle.texts.proofs.Digits.{onto_push, mapped_none, mapped_nil, bytes_word, pairs_none, pairs_more, pairs_odd, pairs_all}
+use Rattle.texts.proofs.Digits.{refused, onto_push, mapped_none, mapped_nil, pairs_none, pairs_more, pairs_odd, pairs_all}
 use Rattle.texts.proofs.add_bytes.Goals as goal
 
 -- what is left spells nothing, so the whole does not
-none_left : (out start word : List ℕ) (i : ℕ) → option_map (λ xs. out ++ xs) (pairs_of (drop i word)) ≡ option_map (λ xs. start ++ xs) (pairs_of (drop 1 word))
-    → pairs_of (drop i word) ≡ None → bytes_of word ≡ pairs_of (drop 1 word) → bytes_of word ≡ None
-none_left out start word i v e b = b ∙ mapped_none start (pairs_of (drop 1 word)) (sym v ∙ ap (option_map (λ xs. out ++ xs)) e)
+none_left : (out start bs word : List ℕ) → pairs_of bs ≡ None → option_map (λ xs. out ++ xs) (pairs_of bs) ≡ option_map (λ xs. start ++ xs) (bytes_of word) → bytes_of word ≡ None
+none_left out start bs word e v = mapped_none start (bytes_of word) (sym v ∙ ap (option_map (λ xs. out ++ xs)) e)
 
-pub returns-then-i-word : goal.returns-then-i-word
-returns-then-i-word c = record {
+pub returns-in_err-ok_or : goal.returns-in_err-ok_or
+returns-in_err-ok_or c = record {
   added =
-      let w = c.args.word.now in
-      let some : 0 < length w = omega arith in
-      inr (refl, none_left (vec_items c.loop-i.out) (vec_items c.args.out.now) w c.loop-i.i c.loop-i.invariant.1 (pairs_odd w c.loop-i.i c.if-i-word.true) (bytes_word w some c.if-word-ne120.false));
+      let p = err_from_is_err_and c.from_residual.result c.from_residual.ensures.1 in
+      let e = c.in_err-ok_or.ensures in
+      let none = pairs_none c.loop-rest.rest.now (omega arith) (sym e.ok_part ∙ c.byte.ensures.the_byte) in
+      rw (p.1, p.2) (inr (refused _ _ _ e.value, none_left _ (vec_items c.args.out.now) c.loop-rest.rest.now c.args.word.now none c.loop-rest.invariant));
 }
 
-pub returns-in_default : goal.returns-in_default
-returns-in_default c = record {
+pub loop-rest-preserved : goal.loop-rest-preserved
+loop-rest-preserved c =
+    let out = vec_items c.loop-rest.out in
+    let bs = c.loop-rest.rest.now in
+    let b = c.in_ok-ok_or.field-0 in
+    let rest = pairs_of (drop 2 bs) in
+    ap (λ l. option_map (λ xs. vec_items c.push.new.self ++ xs) (pairs_of l)) (take_rest bs 2)
+    ∙ ap (λ l. option_map (λ xs. l ++ xs) rest) c.in_ok-push.ensures.items ∙ onto_push out b rest
+    ∙ ap (option_map (λ xs. out ++ xs)) (sym (pairs_more bs b (omega arith) (sym c.in_ok-ok_or.ensures.ok_part ∙ c.byte.ensures.the_byte))) ∙ c.loop-rest.invariant
+
+pub returns-then-is_empty : goal.returns-then-is_empty
+returns-then-is_empty c = record {
   added =
-      let w = c.args.word.now in
-      let some : 0 < length w = omega arith in
-      inr (refl, none_left (vec_items c.loop-i.out) (vec_items c.args.out.now) w c.loop-i.i c.loop-i.invariant.1 (pairs_none w c.loop-i.i (omega arith) c.in_default.ensures.the_byte) (bytes_word w some c.if-word-ne120.false));
+      let out = vec_items c.loop-rest.out in
+      sym c.loop-rest.invariant ∙ ap (option_map (λ xs. out ++ xs)) (pairs_all c.loop-rest.rest.now (eqb-true _ _ (sym c.if-is_empty.ensures))) ∙ mapped_nil out;
 }
 
-pub loop-i-preserved : goal.loop-i-preserved
-loop-i-preserved c =
-    let w = c.args.word.now in
-    let i = c.loop-i.i in
-    let out = vec_items c.loop-i.out in
-    let x = c.in-Some.b in (
-      omega arith,
-      ap (λ l. option_map (λ xs. l ++ xs) (pairs_of (drop (i + 2) w))) c.in_ok-push.ensures.items
-          ∙ onto_push out x (pairs_of (drop (i + 2) w)) ∙ sym (ap (option_map (λ xs. out ++ xs)) (pairs_more w i x (omega arith) c.in-Some.ensures.the_byte)) ∙ c.loop-i.invariant.1,
-    )
-
-pub returns : goal.returns
-returns c = record {
+pub returns-else-is_empty : goal.returns-else-is_empty
+returns-else-is_empty c = record {
   added =
-      let w = c.args.word.now in
-      let some : 0 < length w = omega (arith, eqb-false (length w) 0 (sym c.if-is_empty.ensures)) in
-      let out = vec_items c.loop-i.out in
-      ap (option_map (λ xs. vec_items c.args.out.now ++ xs)) (bytes_word w some c.if-word-ne120.false) ∙ sym c.loop-i.invariant.1
-      ∙ ap (option_map (λ xs. out ++ xs)) (pairs_all w c.loop-i.i c.loop-i-test.false) ∙ mapped_nil out;
+      let none = pairs_odd c.loop-rest.rest.now (omega (arith, eqb-false _ _ (sym c.if-is_empty.ensures))) in
+      inr (refl, none_left _ (vec_items c.args.out.now) c.loop-rest.rest.now c.args.word.now none c.loop-rest.invariant);
 }

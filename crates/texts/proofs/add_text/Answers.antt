@@ -1,87 +1,34 @@
-use Rattle.std.proofs.Common.{◌≡◌, ◌+◌, ◌<◌, ◌++◌, length, get_or, drop, Some, None, vec_items, sym, refl, ap, ◌∙◌, inr, arith}
+use Rattle.std.proofs.Common.{◌≡◌, ℕ, List, ◌++◌, length, get_or, None, vec_items, sym, refl, ap, ◌∙◌, inr, arith}
 use Rattle.std.specs.Option.{option_map}
-use Rattle.std.proofs.lemmas.List.{take_rest, length-drop}
-use Rattle.texts.specs.Encoded.{quoted, escape_of}
-use Rattle.texts.proofs.Digits.{onto_push, mapped_nil}
-use Rattle.texts.proofs.Quotes.{text_word, escape_long, text_shown, text_not_shown, text_escape, text_no_escape, text_end, text_more, text_open, text_none}
+use Rattle.texts.specs.Encoded.{front_of, quoted, text_of}
+use Rattle.texts.proofs.Digits.{onto_push, mapped_none, mapped_nil}
+use Rattle.texts.proofs.Quotes.{quoted_front, quoted_end, quoted_none}
 use Rattle.texts.proofs.add_text.Goals as goal
-use Rattle.texts.proofs.add_text.Goals.{then-loop-i-test+else-word-i-ne34, else-loop-i-test}
 
-pub returns-in_default : goal.returns-in_default
-returns-in_default c = record {
+-- what is left spells nothing, so the whole does not
+none_left : (out start bs word : List ℕ) → None ≡ front_of bs → (length bs ≡ 1 → get_or bs 0 0 ≡ 34 → ⊥) → option_map (λ xs. out ++ xs) (quoted 0 bs) ≡ option_map (λ xs. start ++ xs) (text_of word)
+    → text_of word ≡ None
+none_left out start bs word e n v = mapped_none start (text_of word) (sym v ∙ ap (option_map (λ xs. out ++ xs)) (quoted_none bs e n))
+
+pub loop-b-preserved : goal.loop-b-preserved
+loop-b-preserved c =
+    let out = vec_items c.loop-b.out in
+    let rest = quoted 0 c.in-Some.after.now in
+    ap (λ l. option_map (λ xs. l ++ xs) rest) c.in_ok-push.ensures.items ∙ onto_push out c.in-Some.b rest
+    ∙ ap (option_map (λ xs. out ++ xs)) (sym (quoted_front _ _ _ c.in-Some.ensures.spelled)) ∙ c.loop-b.invariant
+
+pub returns-in-34-rest : goal.returns-in-34-rest
+returns-in-34-rest c = record {
   added =
-      let w = c.args.word.now in
-      let i = c.loop-i.i in
-      let some : 0 < length w = omega arith in
-      inr (
-        refl,
-        text_none (vec_items c.loop-i.out) (vec_items c.args.out.now) w i some c.if-word-ne34.false c.loop-i.invariant.2
-            (text_no_escape w i c.loop-i-test.true c.if-word-i-eq92.true (c.in_default.ensures.spelled ∙ ap escape_of (take_rest w i))),
-      );
+      let out = vec_items c.loop-b.out in
+      sym c.loop-b.invariant ∙ ap (option_map (λ xs. out ++ xs)) (quoted_end c.loop-b.rest.now (omega arith) (omega arith)) ∙ mapped_nil out;
 }
 
-pub loop-i-preserved-then-word-i-eq92 : goal.loop-i-preserved-then-word-i-eq92
-loop-i-preserved-then-word-i-eq92 c =
-    let w = c.args.word.now in
-    let i = c.loop-i.i in
-    let out = vec_items c.loop-i.out in
-    let x = c.in-Some.b in
-    let e = c.in-Some.ensures.spelled ∙ ap escape_of (take_rest w i) in (
-      omega arith,
-      omega (arith, escape_long (drop i w) x e, length-drop i w),
-      ap (λ l. option_map (λ xs. l ++ xs) (quoted 0 (drop (i + 4) w))) c.in_ok-push.ensures.items
-          ∙ onto_push out x (quoted 0 (drop (i + 4) w)) ∙ sym (ap (option_map (λ xs. out ++ xs)) (text_escape w i c.loop-i-test.true x c.if-word-i-eq92.true e)) ∙ c.loop-i.invariant.2,
-    )
+pub returns-in_default-rest : goal.returns-in_default-rest
+returns-in_default-rest c = record { added = inr (refl, none_left _ (vec_items c.args.out.now) c.loop-b.rest.now c.args.word.now c.in_default-first_byte.ensures.spelled (λ l q. omega arith) c.loop-b.invariant) }
 
-pub loop-i-preserved : goal.loop-i-preserved
-loop-i-preserved c =
-    let w = c.args.word.now in
-    let i = c.loop-i.i in
-    let out = vec_items c.loop-i.out in (
-      omega arith,
-      omega arith,
-      ap (λ l. option_map (λ xs. l ++ xs) (quoted 0 (drop (i + 1) w))) c.in_ok-push-2.ensures.items
-          ∙ onto_push out (get_or w i 0) (quoted 0 (drop (i + 1) w))
-          ∙ sym (ap (option_map (λ xs. out ++ xs)) (text_shown w i c.loop-i-test.true c.if-word-i-ne34.true c.if-word-i-eq92.false c.if-is_shown.ensures.tested)) ∙ c.loop-i.invariant.2,
-    )
+pub returns-in_default-rest-2 : goal.returns-in_default-rest-2
+returns-in_default-rest-2 c = record { added = inr (refl, none_left _ (vec_items c.args.out.now) c.loop-b.rest.now c.args.word.now c.in_default-first_byte.ensures.spelled (λ l q. omega arith) c.loop-b.invariant) }
 
-pub returns-else-is_shown : goal.returns-else-is_shown
-returns-else-is_shown c = record {
-  added =
-      let w = c.args.word.now in
-      let i = c.loop-i.i in
-      let some : 0 < length w = omega arith in
-      inr (
-        refl,
-        text_none (vec_items c.loop-i.out) (vec_items c.args.out.now) w i some c.if-word-ne34.false c.loop-i.invariant.2
-            (text_not_shown w i c.loop-i-test.true c.if-word-i-ne34.true c.if-word-i-eq92.false c.if-is_shown.ensures.tested),
-      );
-}
-
-pub returns-then-word-i-ne1 : goal.returns-then-word-i-ne1
-returns-then-word-i-ne1 c = record {
-  added =
-      let w = c.args.word.now in
-      let i = c.loop-i.i in
-      let some : 0 < length w = omega arith in
-      let none : quoted 0 (drop i w) ≡ None = elim c.loop-i-test.branch [
-        | then-loop-i-test+else-word-i-ne34 v ↦ text_more w i v.loop-i-test.true v.if-word-i-ne34.false (λ e. c.if-word-i-ne1.true (omega arith))
-        | else-loop-i-test v ↦ text_open w i v.loop-i-test.false
-      ] in
-      inr (refl, text_none (vec_items c.loop-i.out) (vec_items c.args.out.now) w i some c.if-word-ne34.false c.loop-i.invariant.2 none);
-}
-
-pub returns : goal.returns
-returns c = record {
-  added =
-      let w = c.args.word.now in
-      let i = c.loop-i.i in
-      let out = vec_items c.loop-i.out in
-      let some : 0 < length w = omega arith in
-      let all : quoted 0 (drop i w) ≡ Some _ = elim c.loop-i-test.branch [
-        | then-loop-i-test+else-word-i-ne34 v ↦ text_end w i v.loop-i-test.true v.if-word-i-ne34.false (omega arith)
-        | else-loop-i-test v ↦ absurd (omega (arith, v.loop-i-test.false))
-      ] in
-      ap (option_map (λ xs. vec_items c.args.out.now ++ xs)) (text_word w some c.if-word-ne34.false) ∙ sym c.loop-i.invariant.2
-      ∙ ap (option_map (λ xs. out ++ xs)) all ∙ mapped_nil out;
-}
+pub returns-in_default-rest-3 : goal.returns-in_default-rest-3
+returns-in_default-rest-3 c = record { added = inr (refl, none_left _ (vec_items c.args.out.now) c.loop-b.rest.now c.args.word.now c.in_default-first_byte.ensures.spelled (λ l q. omega arith) c.loop-b.invariant) }

@@ -1,10 +1,10 @@
-use Rattle.std.proofs.Common.{◌≡◌, ◌-◌, ◌≤◌, ◌++◌, length, drop, vec_items}
+use Rattle.std.proofs.Common.{◌≡◌, ◌++◌, length, vec_items}
 use Rattle.std.specs.Option.{option_map}
-use Rattle.texts.specs.Encoded.{quoted}
+use Rattle.texts.specs.Encoded.{quoted, text_of}
 use Rattle.texts.proofs.add_text.Given as goal
 
-abbrev pub invariant-loop-i : goal.invariant-loop-i
-invariant-loop-i l = (1 ≤ l.i) × (l.i ≤ length l.word) × (option_map (λ xs. vec_items l.out ++ xs) (quoted 0 (drop l.i l.word)) ≡ option_map (λ xs. vec_items l.initial.out ++ xs) (quoted 0 (drop 1 l.word)))
+abbrev pub invariant-loop-b : goal.invariant-loop-b
+invariant-loop-b l = option_map (λ xs. vec_items l.out ++ xs) (quoted 0 l.rest) ≡ option_map (λ xs. vec_items l.fn.out ++ xs) (text_of l.word)
 
-abbrev pub decreases-loop-i : goal.decreases-loop-i
-decreases-loop-i l = length l.word - l.i
+abbrev pub decreases-loop-b : goal.decreases-loop-b
+decreases-loop-b l = length l.rest

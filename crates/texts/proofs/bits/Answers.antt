@@ -1,5 +1,4 @@
 use Rattle.std.proofs.Common.{◌≡◌, ℕ, ◌+◌, ◌-◌, ◌*◌, ◌^◌, ◌<◌, ◌≤◌, List, length, get_or, take, drop, sym, ap, ◌∙◌, arith}
-use native.Mathlib.Nat.{pow-le-pow_right}
 use Rattle.std.proofs.lemmas.List.{take_rest, length-drop}
 use Rattle.texts.specs.Encoded.{hex_after, bits_of}
 use Rattle.texts.proofs.Digits.{hex_none, hex_more, hex_all, hex_room, hex_fits, hex_below, bits_word}
@@ -17,23 +16,13 @@ bits_tail k w l e = bits_word k w l e ∙ ap (hex_after 0) (sym (take_rest w 1))
 fits_more : (n i k : ℕ) (w : List ℕ) → n < 16 ^ i → i < length (tail w) → length w ≡ k + 1 → k ≤ 16 → n * 16 + 15 < 2 ^ 64
 fits_more n i k w h l e m = hex_fits n i k h (omega (arith, tail_length w)) m
 
-hex_end : (n i k : ℕ) (w : List ℕ) → n < 16 ^ i → i ≤ length (tail w) → length w ≡ k + 1 → n < 16 ^ k
-hex_end n i k w h l e =
-    let some : 0 < 16 = omega arith in
-    let few : i ≤ k = omega (arith, tail_length w) in
-    let most : 16 ^ i ≤ 16 ^ k = pow-le-pow_right some few in
-    omega arith
-
 pub overflow_mul-n : goal.overflow_mul-n
-overflow_mul-n c = record { fits = omega (arith, fits_more c.loop-b.n c.loop-b.b-index c.args.digits c.args.word.now c.loop-b.invariant.0 c.loop-b-test.true c.if-word-digits.false c.requires) }
+overflow_mul-n c = record { fits = omega (arith, fits_more c.loop-b.n c.loop-b.b-index c.args.digits c.args.word.now c.loop-b.invariant.0 c.loop-b-test.true (omega arith) c.requires) }
 
-pub returns-in_err-nibble : goal.returns-in_err-nibble
-returns-in_err-nibble c = record {
-  spelled =
-      c.from_residual.ensures ∙ sym (hex_none c.loop-b.n (tail c.args.word.now) c.loop-b.b-index c.loop-b-test.true c.in_err-nibble.ensures.the_digit)
-      ∙ c.loop-b.invariant.1 ∙ sym (bits_tail c.args.digits c.args.word.now c.if-word-digits.false c.if-word-ne120.false);
-  small = rw c.from_residual.ensures tt;
-}
+pub returns-in_err-nibble-clause-spelled : goal.returns-in_err-nibble-clause-spelled
+returns-in_err-nibble-clause-spelled c =
+    c.from_residual.ensures ∙ sym (hex_none c.loop-b.n (tail c.args.word.now) c.loop-b.b-index c.loop-b-test.true c.in_err-nibble.ensures.the_digit)
+    ∙ c.loop-b.invariant.1 ∙ sym (bits_tail c.args.digits c.args.word.now (omega arith) (omega arith))
 
 pub overflow_add-n : goal.overflow_add-n
 overflow_add-n c = record {
@@ -41,7 +30,7 @@ overflow_add-n c = record {
     arith,
     c.from.ensures,
     hex_below (get_or (tail c.args.word.now) c.loop-b.b-index 0) c.in_ok-nibble.field-0 c.in_ok-nibble.ensures.the_digit,
-    fits_more c.loop-b.n c.loop-b.b-index c.args.digits c.args.word.now c.loop-b.invariant.0 c.loop-b-test.true c.if-word-digits.false c.requires,
+    fits_more c.loop-b.n c.loop-b.b-index c.args.digits c.args.word.now c.loop-b.invariant.0 c.loop-b-test.true (omega arith) c.requires,
   );
 }
 
@@ -55,10 +44,7 @@ loop-b-preserved c =
       ap (λ x. hex_after (n * 16 + x) (drop (i + 1) w)) c.from.ensures ∙ sym (hex_more n w i c.loop-b-test.true c.in_ok-nibble.field-0 d) ∙ c.loop-b.invariant.1,
     )
 
-pub returns : goal.returns
-returns c = record {
-  spelled =
-      sym (hex_all c.loop-b.n (tail c.args.word.now) c.loop-b.b-index c.loop-b-test.false)
-      ∙ c.loop-b.invariant.1 ∙ sym (bits_tail c.args.digits c.args.word.now c.if-word-digits.false c.if-word-ne120.false);
-  small = hex_end c.loop-b.n c.loop-b.b-index c.args.digits c.args.word.now c.loop-b.invariant.0 c.loop-b.auto.b-index-end c.if-word-digits.false;
-}
+pub returns-clause-spelled : goal.returns-clause-spelled
+returns-clause-spelled c =
+    sym (hex_all c.loop-b.n (tail c.args.word.now) c.loop-b.b-index c.loop-b-test.false)
+    ∙ c.loop-b.invariant.1 ∙ sym (bits_tail c.args.digits c.args.word.now (omega arith) (omega arith))

@@ -10,46 +10,46 @@ use Rattle.script.proofs.Laid.{reads_more, below_push}
 use Rattle.script.proofs.Listing.{behind_more, behind_err, behind_every, step_no_pair, step_pair, step_bad_pair, step_falls, step_bad_word, step_close, step_end}
 use Rattle.script.proofs.items.read_items.Goals as goal
 
-pub returns-in-End : goal.returns-in-End
-returns-in-End c = record { as_spelled = (behind_every _ _ _ c.loop-cells.invariant.1 (step_end NotAnItem (λ _. Err NotAnItem) item_of _ c.in-End.ensures.cut_off.0), c.loop-cells.invariant.0) }
+pub returns-in-None : goal.returns-in-None
+returns-in-None c = record { as_spelled = (behind_every _ _ _ c.loop-cells.invariant.1 (step_end NotAnItem (λ _. Err NotAnItem) item_of _ c.in-None.ensures.steps.0), c.loop-cells.invariant.0) }
 
-pub returns-in_err-pair-in-Open : goal.returns-in_err-pair-in-Open
-returns-in_err-pair-in-Open c = record {
+pub returns-in_err-pair-in-Some-Open : goal.returns-in_err-pair-in-Some-Open
+returns-in_err-pair-in-Some-Open c = record {
   as_spelled =
       let p = err_from_is_err_and c.from_residual.result c.from_residual.ensures.1 in
-      rw (p.1, p.2) (inr (behind_err _ _ _ _ c.loop-cells.invariant.1 (step_no_pair NotAnItem (λ _. Err NotAnItem) item_of _ _ c.in-Open.ensures.cut_off _ c.in_err-pair-in-Open.ensures.the_pair)));
+      rw (p.1, p.2) (inr (behind_err _ _ _ _ c.loop-cells.invariant.1 (step_no_pair NotAnItem (λ _. Err NotAnItem) item_of _ _ (rw c.in-Some-Open.field-0-is at c.in-Some-Open.ensures.steps) _ c.in_err-pair-in-Some-Open.ensures.the_pair)));
 }
 
-pub returns-in_err-laid-in-Open : goal.returns-in_err-laid-in-Open
-returns-in_err-laid-in-Open c = record {
+pub returns-in_err-laid-in-Some-Open : goal.returns-in_err-laid-in-Some-Open
+returns-in_err-laid-in-Some-Open c = record {
   as_spelled =
-      let p = err_from_is_err_and c.from_residual-in_err-laid-in-Open.result c.from_residual-in_err-laid-in-Open.ensures.1 in
-      rw (p.1, p.2) (elim c.in_err-laid-in-Open.ensures.laid [
+      let p = err_from_is_err_and c.from_residual-in_err-laid-in-Some-Open.result c.from_residual-in_err-laid-in-Some-Open.ensures.1 in
+      rw (p.1, p.2) (elim c.in_err-laid-in-Some-Open.ensures.laid [
         | inl m ↦ inl m
-        | inr x ↦ inr (behind_err _ _ _ _ c.loop-cells.invariant.1 (step_bad_pair NotAnItem (λ _. Err NotAnItem) item_of _ _ c.in-Open.ensures.cut_off _ _ c.in_ok-pair-in-Open.ensures.the_pair _ x))
+        | inr x ↦ inr (behind_err _ _ _ _ c.loop-cells.invariant.1 (step_bad_pair NotAnItem (λ _. Err NotAnItem) item_of _ _ (rw c.in-Some-Open.field-0-is at c.in-Some-Open.ensures.steps) _ _ c.in_ok-pair-in-Some-Open.ensures.the_pair _ x))
       ]);
 }
 
 pub loop-cells-smaller : goal.loop-cells-smaller
-loop-cells-smaller c = step_falls NotAnItem (λ _. Err NotAnItem) item_of _ _ c.in-Open.ensures.cut_off _ _ c.in_ok-pair-in-Open.ensures.the_pair
+loop-cells-smaller c = step_falls NotAnItem (λ _. Err NotAnItem) item_of _ _ (rw c.in-Some-Open.field-0-is at c.in-Some-Open.ensures.steps) _ _ c.in_ok-pair-in-Some-Open.ensures.the_pair
 
 pub loop-cells-preserved : goal.loop-cells-preserved
 loop-cells-preserved c =
     let before = vec_items c.loop-cells.bytes in
     let after = vec_items c.cell.new.bytes in
     let cells = vec_items c.loop-cells.cells in
-    let x = c.in_ok-laid-in-Open.laid in
-    let l = c.in_ok-laid-in-Open.ensures.laid in
-    let e = c.in_ok-push-in-Open.ensures.items in
+    let x = c.in_ok-laid-in-Some-Open.laid in
+    let l = c.in_ok-laid-in-Some-Open.ensures.laid in
+    let e = c.in_ok-push-in-Some-Open.ensures.items in
     let rest = items_of (left c.pair.new.self) in (
       subst (AllByRecursion (Below (length after))) (sym e) (below_push before after cells x l.2 c.loop-cells.invariant.0 l.1),
       ap (λ cs. behind (map (read after) cs) rest) e ∙ ap (λ ds. behind ds rest) (reads_more before after cells x l.2 c.loop-cells.invariant.0)
           ∙ behind_more (map (read before) cells) (read after x) _ _ rest c.loop-cells.invariant.1
-          (step_pair NotAnItem (λ _. Err NotAnItem) item_of _ _ c.in-Open.ensures.cut_off _ _ c.in_ok-pair-in-Open.ensures.the_pair _ l.0),
+          (step_pair NotAnItem (λ _. Err NotAnItem) item_of _ _ (rw c.in-Some-Open.field-0-is at c.in-Some-Open.ensures.steps) _ _ c.in_ok-pair-in-Some-Open.ensures.the_pair _ l.0),
     )
 
-pub returns-in-Close : goal.returns-in-Close
-returns-in-Close c = record { as_spelled = inr (behind_err _ _ _ _ c.loop-cells.invariant.1 (step_close NotAnItem (λ _. Err NotAnItem) item_of _ _ c.in-Close.ensures.cut_off)) }
+pub returns-in-Some-Close : goal.returns-in-Some-Close
+returns-in-Some-Close c = record { as_spelled = inr (behind_err _ _ _ _ c.loop-cells.invariant.1 (step_close NotAnItem (λ _. Err NotAnItem) item_of _ _ (rw c.in-Some-Close.field-0-is at c.in-Some-Close.ensures.steps))) }
 
-pub returns-in-Word : goal.returns-in-Word
-returns-in-Word c = record { as_spelled = inr (behind_err _ _ _ _ c.loop-cells.invariant.1 (step_bad_word NotAnItem (λ _. Err NotAnItem) item_of _ _ _ _ c.in-Word.ensures.cut_off refl)) }
+pub returns-in-Some-Word : goal.returns-in-Some-Word
+returns-in-Some-Word c = record { as_spelled = inr (behind_err _ _ _ _ c.loop-cells.invariant.1 (step_bad_word NotAnItem (λ _. Err NotAnItem) item_of _ _ _ _ (rw c.in-Some-Word.field-0-is at c.in-Some-Word.ensures.steps) refl)) }

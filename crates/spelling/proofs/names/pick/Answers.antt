@@ -1,20 +1,12 @@
-use Rattle.std.proofs.Common.{sym, ap, ◌∙◌}
+use Rattle.std.proofs.Common.{◌∙◌, rules, tests}
 use Rattle.std.specs.Str.{bytes_eq}
-use Rattle.spelling.proofs.Looks.{look_here, look_on, look_none}
+use Rattle.std.proofs.lemmas.Iterator.{YieldsList-from_slice}
+use Rattle.std.proofs.lemmas.Iterator.Search.{find_from_yields_List}
 use Rattle.spelling.proofs.names.pick.Goals as goal
-
-pub returns-then-is : goal.returns-then-is
-returns-then-is g c = record {
-  first_so_called =
-      sym (look_here g.T.Named.called c.args.word.now c.args.all.now c.loop-x.x-index c.x-item.result c.loop-x-test.true c.x-item.is (c.if-is.ensures.compared ∙ ap (bytes_eq c.args.word.now) c.name.ensures)) ∙ c.loop-x.invariant;
-}
-
-pub loop-x-preserved : goal.loop-x-preserved
-loop-x-preserved g c =
-    sym (look_on g.T.Named.called c.args.word.now c.args.all.now c.loop-x.x-index c.x-item.result c.loop-x-test.true c.x-item.is (c.if-is.ensures.compared ∙ ap (bytes_eq c.args.word.now) c.name.ensures)) ∙ c.loop-x.invariant
 
 pub returns : goal.returns
 returns g c = record {
   first_so_called =
-      sym (look_none g.T.Named.called c.args.word.now c.args.all.now c.loop-x.x-index c.loop-x-test.false) ∙ c.loop-x.invariant;
+      c.copied.ensures
+      ∙ find_from_yields_List (λ x. bytes_eq c.args.word.now (g.T.Named.called x)) _ _ _ c.find.ensures.ran (YieldsList-from_slice c.args.all.now cc) (λ x b q k. search (rules, tests));
 }
