@@ -4,7 +4,7 @@ use Rattle.std.specs.List.{flat_map}
 use Rattle.std.specs.Fmt.{signed_decimal}
 use Rattle.carrier.specs.Items.{Datum, truth, whole, single, double, run, fixed}
 use Rattle.transfer.specs.Cells.{read}
-use Rattle.transfer.specs.declared.cells.Cell.{Cell}
+use Rattle.transfer.specs.Cells.{Cell}
 use Rattle.texts.specs.Encoded.{shown}
 use Rattle.script.specs.Nouns.{noun_name}
 use Rattle.script.specs.declared.items.Noun.{Noun}

@@ -1,6 +1,6 @@
 use Rattle.std.proofs.Common.{false, [], ◌∷◌, ◌++◌, get_or, string_bytes, ap, ◌∙◌}
 use Rattle.transfer.specs.Cells.{read}
-use Rattle.transfer.specs.declared.cells.Cell.TheVariants.{Truth}
+use Rattle.carrier.specs.declared.Item.TheVariants.{Truth}
 use Rattle.print.specs.Printing.{item_text}
 use Rattle.print.proofs.Adding.{then_added, joins_more, joins_all}
 use Rattle.print.proofs.items.Goals as goal
