@@ -16,6 +16,7 @@ use Rattle.texts.specs.Encoded.{hex_digit, byte_of, onto, pairs_of, bytes_of, he
 use Rattle.script.specs.Lexing.{opening, closing, word, in_word, lexing, tokens}
 use Rattle.script.specs.Nouns.{noun_name, noun_of, item_by, item_of, items_of}
 use Rattle.print.specs.Printing.{noun_in, glyph, hex_digits, hex_text, byte_text, text_text, value_text, item_text}
+use Rattle.print.specs.Laws.{RunBack}
 use Rattle.script.specs.Shapes.{and_then, rows}
 use Rattle.spelling.specs.declared.bad.Bad.TheVariants.{NotANumber, NotBytes, NotBits, NotText}
 use Rattle.script.specs.declared.items.Noun.{Noun}
@@ -248,6 +249,14 @@ value_word (single n) h = (bits_word 8 n, omega arith)
 value_word (double n) h = (bits_word 16 n, omega arith)
 value_word (run bs) h = (text_word bs, omega arith)
 value_word (fixed bs) h = (hex_word bs, omega arith)
+
+pub run_back : (d : Datum) → Held d → RunBack d
+run_back (truth b) h = tt
+run_back (whole z) h = tt
+run_back (single n) h = tt
+run_back (double n) h = tt
+run_back (run bs) h = text_back bs h.1
+run_back (fixed bs) h = tt
 
 one_item : (n v : List ℕ) (d : Datum) → item_of (n, v) ≡ Ok d → items_of (opening ∷ word n ∷ word v ∷ closing ∷ []) ≡ Ok (d ∷ [])
 unfolding rows

@@ -1,10 +1,10 @@
 -- What is printed. Assumes nothing.
-use Rattle.std.specs.Prelude.{◌≡◌, ℕ, zero, suc, ◌+◌, ◌/◌, ◌%◌, cond, List, [], ◌∷◌, ◌++◌, codes, decimal, Result, OnOk, ◌==◌, nat_lt}
+use Rattle.std.specs.Prelude.{◌≡◌, ℕ, zero, suc, ◌+◌, ◌/◌, ◌%◌, cond, List, [], ◌∷◌, ◌++◌, codes, decimal, Result, OnOk, nat_lt}
 use Rattle.std.specs.List.{flat_map}
 use Rattle.std.specs.Fmt.{signed_decimal}
 use Rattle.carrier.specs.Items.{Datum, truth, whole, single, double, run, fixed}
 use Rattle.transfer.specs.Cells.{read}
-use Rattle.transfer.specs.declared.cells.Cell.{Cell}
+use Rattle.transfer.specs.Cells.{Cell}
 use Rattle.texts.specs.Encoded.{shown}
 use Rattle.script.specs.Nouns.{noun_name}
 use Rattle.script.specs.declared.items.Noun.{Noun}
@@ -33,10 +33,7 @@ byte_text b = cond (shown b) (b ∷ []) (92 ∷ 120 ∷ hex_digits 2 b)
 abbrev pub text_text : List ℕ → List ℕ
 text_text bs = 34 ∷ (flat_map byte_text bs ++ 34 ∷ [])
 
--- a number of a row: a blank stands before it unless it comes first
-abbrev pub next_text : ℕ → ℕ → List ℕ
-next_text i n = cond (i == 0) (decimal n) (32 ∷ decimal n)
-
+-- numbers, a blank between them
 abbrev pub numbers_text : List ℕ → List ℕ
 numbers_text [] = []
 numbers_text (n ∷ ns) = decimal n ++ flat_map (λ m. 32 ∷ decimal m) ns

@@ -5,8 +5,8 @@ use Rattle.std.proofs.ByRecursion.{All-push, All-weaker}
 use Rattle.std.proofs.lemmas.List.{drop_at, drop_all, take_all, length-append, length-drop, drop-append-le, take-append-le, map-append}
 use Rattle.carrier.specs.Items.{run, fixed}
 use Rattle.transfer.specs.Cells.{within, read, Below}
-use Rattle.transfer.specs.declared.cells.Cell.{Cell}
-use Rattle.transfer.specs.declared.cells.Cell.TheVariants.{Truth, Whole, Single, Double, Run, Fixed}
+use Rattle.transfer.specs.Cells.{Cell}
+use Rattle.carrier.specs.declared.Item.TheVariants.{Truth, Whole, Single, Double, Run, Fixed}
 use Rattle.transfer.specs.declared.cells.Span.{Span}
 use Rattle.script.specs.Laying.{Grown}
 use Rattle.script.specs.Shapes.{and_then}

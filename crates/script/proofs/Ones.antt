@@ -2,7 +2,7 @@
 use Rattle.std.proofs.Common.{◌≡◌, ◌<◌, List, [], ◌∷◌, map, length, get_or, Ok, Err, sym, refl, ap, arith}
 use Rattle.std.specs.List.{AllByRecursion}
 use Rattle.carrier.specs.Items.{Datum}
-use Rattle.transfer.specs.declared.cells.Cell.{Cell}
+use Rattle.transfer.specs.Cells.{Cell}
 use Rattle.script.specs.Calls.{one}
 use Rattle.spelling.specs.declared.bad.Bad.TheVariants.{MissingArgument, TooMuch}
 

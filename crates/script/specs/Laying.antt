@@ -3,8 +3,8 @@ use Rattle.std.specs.Prelude.{◌≡◌, ℕ, ◌⊎◌, List, ◌++◌, map, le
 use Rattle.std.specs.List.{AllByRecursion}
 use Rattle.carrier.specs.Items.{Datum}
 use Rattle.transfer.specs.Cells.{within, read, Below}
-use Rattle.transfer.specs.declared.cells.Cell.{Cell}
-use Rattle.transfer.specs.declared.cells.Cell.TheVariants.{Run}
+use Rattle.transfer.specs.Cells.{Cell}
+use Rattle.carrier.specs.declared.Item.TheVariants.{Run}
 use Rattle.transfer.specs.declared.cells.Span.{Span}
 use Rattle.script.specs.Shapes.{and_then}
 use Rattle.spelling.specs.declared.bad.Bad.{Bad}

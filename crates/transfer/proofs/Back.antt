@@ -9,7 +9,7 @@ use Rattle.transfer.specs.Cells.{items, bulks, Each, TookAll, lacks, limited, Ca
 use Rattle.carrier.specs.declared.CarrierFault.{CarrierFault}
 use Rattle.carrier.specs.declared.Kind.{Kind}
 use Rattle.carrier.specs.declared.Kind.TheVariants as kind
-use Rattle.transfer.specs.declared.cells.Cell.{Cell}
+use Rattle.transfer.specs.Cells.{Cell}
 use Rattle.transfer.specs.declared.cells.Taking.{Taking}
 use Rattle.refusal.specs.declared.Refusal.{Refusal}
 
@@ -37,9 +37,9 @@ none_left : (ds : List Datum) → Each [] ds → ds ≡ []
 none_left [] p = refl
 none_left (d ∷ ds) p = absurd p
 
-pub back_all : (code : Datum → List ℕ) → Apart code → (ks : List Kind) (r : Taking) (cells cells' : List Cell) (bytes bytes' : List ℕ) (s t : State) → TookAll code ks r cells cells' bytes bytes' s t
+pub back_all : {code : Datum → List ℕ} → Apart code → {ks : List Kind} {r : Taking} {cells cells' : List Cell} {bytes bytes' : List ℕ} {s t : State} → TookAll code ks r cells cells' bytes bytes' s t
     → (ds : List Datum) (rest : List ℕ) → Each ks ds → All Held ds → s.row ≡ codes code ds ++ rest → (items (length ks) cells' bytes' ≡ ds) × (t.row ≡ rest)
-back_all code apart ks r cells cells' bytes bytes' s t m ds rest p h e =
+back_all {code} apart {ks} {r} {cells} {cells'} {bytes} {bytes'} {s} {t} m ds rest p h e =
     let got = items (length ks) cells' bytes' in
     let k = m.took in
     let q = same_front code apart ks [] got ds t.row rest k.kinds (subst (λ l. Each l ds) (sym (append-nil ks)) p) k.held h (sym k.row ∙ e) in
@@ -71,7 +71,7 @@ bulks_append : (xs ys : List Datum) → bulks (xs ++ ys) ≡ bulks xs + bulks ys
 bulks_append [] ys = omega arith
 bulks_append (x ∷ xs) ys = let h = bulks_append xs ys in omega arith
 
-module _ (code : Datum → List ℕ) (apart : Apart code) (ks : List Kind) (n : ℕ) (e : CarrierFault) (cells cells' : List Cell) (bytes bytes' : List ℕ) (s t : State) (m : Stopped code ks n e cells cells' bytes bytes' s t) where
+module _ {code : Datum → List ℕ} (apart : Apart code) {ks : List Kind} {n : ℕ} {e : CarrierFault} {cells cells' : List Cell} {bytes bytes' : List ℕ} {s t : State} (m : Stopped code ks n e cells cells' bytes bytes' s t) where
   abbrev got : List Datum
   got = items n cells' bytes'
 

@@ -1,5 +1,4 @@
 pub mod Puts
-pub mod Parts
 pub mod Ones
 pub mod Takes
 pub mod Back

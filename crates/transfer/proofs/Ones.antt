@@ -1,29 +1,22 @@
 -- One item that is taken into lent memory. Assumes nothing.
-use Rattle.std.proofs.Common.{◌≡◌, ℕ, ◌+◌, ◌-◌, ◌<◌, ◌≤◌, min, false, List, ◌++◌, length, take, drop, ℤ, sym, refl, ap, ◌∙◌, subst, arith, w64, to_z, of_z}
+use Rattle.std.proofs.Common.{◌≡◌, ℕ, ◌+◌, ◌-◌, ◌<◌, ◌≤◌, min, false, List, ◌++◌, length, take, drop, Ok, Err, Result, MatchResult, IsOkAnd, sym, refl, ap, ◌∙◌, subst, arith}
 use borrow.Rule.Slice.PartMut.{put_mid}
 use Rattle.std.proofs.lemmas.List.{length-drop, length-take-le, drop_at, take_all, drop-drop, take-append-le, drop-append-le, drop_all, take-append-drop}
 use Rattle.std.proofs.lemmas.Bool.{lt-ltb, le-ltb}
 use Rattle.std.proofs.lemmas.Slice.{take-put_mid_below}
-use Rattle.std.proofs.lemmas.Int.{to_z-of_z}
 use Rattle.refusal.specs.declared.Refusal.TheVariants.{ResultMemory}
-use Rattle.carrier.specs.Items.{Datum, whole, run, fixed, Of, a_run, a_fixed, a_whole, bulk}
-use Rattle.carrier.specs.Steps.{State, Taken, Missing, TookRun}
-use Rattle.transfer.specs.Cells.{read, lacks, limited, Cause, no_item, no_bytes, Below, TookOne, NotOne}
+use Rattle.carrier.specs.Items.{Datum, run, fixed, Held, Of, a_run, a_fixed, bulk}
+use Rattle.carrier.specs.Steps.{State, Taken, Missing, Takes, TookRun}
+use Rattle.transfer.specs.Cells.{read, lacks, limited, Cause, no_item, no_bytes, Cell, Below, TookOne, NotOne, TakesOne}
 use Rattle.carrier.specs.declared.CarrierFault.{CarrierFault}
 use Rattle.carrier.specs.declared.Kind.{Kind}
 use Rattle.carrier.specs.declared.Kind.TheVariants as kind
-use Rattle.transfer.specs.declared.cells.Cell.{Cell}
-use Rattle.transfer.specs.declared.cells.Cell.TheVariants.{Whole, Run, Fixed}
+use Rattle.carrier.specs.declared.Item.TheVariants.{Run, Fixed}
 
-module _ (code : Datum → List ℕ) (k j : Kind) (is : k ≡ j) (used : ℕ) (bytes : List ℕ) (s t : State) where
-  -- an item without bytes
-  pub one_plain : (cell : Cell) → used ≤ length bytes → Of j (read bytes cell) → bulk (read bytes cell) ≡ 0 → Below (used + bulk (read bytes cell)) cell → Taken code (read bytes cell) s t → TookOne code k used cell bytes bytes s t
-  one_plain cell h of none low a = subst (λ i. TookOne code i used cell bytes bytes s t) (sym is)
-      (record { of = of; taken = a; fits = omega arith; below = low; before = refl; after = refl })
-
+module _ (code : Datum → List ℕ) {k j : Kind} (is : k ≡ j) (used : ℕ) (bytes : List ℕ) where
   -- no such item: nothing changed
-  pub one_missing : (taken : ℕ) (e : CarrierFault) → lacks j (length bytes - used) ≡ false → Missing code (limited j (length bytes - used)) taken e s t → NotOne code k (length bytes - used) taken e bytes bytes s t
-  one_missing taken e l m = subst (λ i. NotOne code i (length bytes - used) taken e bytes bytes s t) (sym is)
+  pub one_missing : {s t : State} {taken : ℕ} {e : CarrierFault} → lacks j (length bytes - used) ≡ false → Missing code (limited j (length bytes - used)) taken e s t → NotOne code k (length bytes - used) taken e bytes bytes s t
+  one_missing {s} {t} {taken} {e} l m = subst (λ i. NotOne code i (length bytes - used) taken e bytes bytes s t) (sym is)
       (record {
         cause = subst (Cause code j 1 (length bytes - used) s.row) (sym (ap (λ x. x.refusal) m.fault)) (no_item (omega arith) l m.none);
         numbers = ap (λ x. x.taken) m.fault;
@@ -31,11 +24,21 @@ module _ (code : Datum → List ℕ) (k j : Kind) (is : k ≡ j) (used : ℕ) (b
         same = m.same;
       })
 
-whole_same : (code : Datum → List ℕ) (z : ℤ) (s t : State) → Taken code (whole z) s t → Taken code (whole (to_z w64 (of_z w64 z))) s t
-whole_same code z s t a = subst (λ y. Taken code (whole y) s t) (sym (to_z-of_z w64 z a.held)) a
+  -- an item without bytes
+  one_taken : {s t : State} (cell : Cell) (d : Datum) → used ≤ length bytes → Of j d → bulk d ≡ 0 → ((n : ℕ) → Below n cell) → read bytes cell ≡ d → Taken code d s t → TookOne code k used cell bytes bytes s t
+  one_taken {s} {t} cell d h of none low e a =
+      let b : bulk (read bytes cell) ≡ 0 = ap bulk e ∙ none in
+      subst (λ i. TookOne code i used cell bytes bytes s t) (sym is)
+      (record { of = subst (Of j) (sym e) of; taken = subst (λ x. Taken code x s t) (sym e) a; fits = omega (arith, b); below = low _; before = refl; after = refl })
 
-pub one_whole : (code : Datum → List ℕ) (k : Kind) (is : k ≡ kind.Whole) (used : ℕ) (bytes : List ℕ) (s t : State) (z : ℤ) → used ≤ length bytes → Taken code (whole z) s t → TookOne code k used (Whole (to_z w64 (of_z w64 z))) bytes bytes s t
-one_whole code k is used bytes s t z h a = one_plain code k kind.Whole is used bytes s t (Whole (to_z w64 (of_z w64 z))) h a_whole refl tt (whole_same code z s t a)
+  -- such an item, as it comes out of the carrier and into a cell
+  pub one_plain : {X : Type 0} (of : X → Datum) (in_cell : X → Cell) (taken : ℕ) (r : Result X CarrierFault) (r' : Result Cell CarrierFault) (s t : State)
+      → lacks j (length bytes - used) ≡ false → limited j (length bytes - used) ≡ j → ((x : X) → Of j (of x)) → ((x : X) → bulk (of x) ≡ 0) → ((x : X) (n : ℕ) → Below n (in_cell x)) → ((x : X) → Held (of x) → read bytes (in_cell x) ≡ of x)
+      → used ≤ length bytes → MatchResult r (λ x. IsOkAnd r' (λ y. y ≡ in_cell x)) (λ e. r' ≡ Err e) → Takes code j of taken r s t → TakesOne code k used taken r' bytes bytes s t
+  one_plain of in_cell taken (Ok x) (Ok y) s t l m kinds none low reads h e a = subst (λ y. TookOne code k used y bytes bytes s t) (sym e) (one_taken (in_cell x) (of x) h (kinds x) (none x) (low x) (reads x a.held) a)
+  one_plain of in_cell taken (Ok x) (Err e') s t l m kinds none low reads h e a = absurd e
+  one_plain of in_cell taken (Err e) r' s t l m kinds none low reads h p a =
+      subst (λ r. TakesOne code k used taken r bytes bytes s t) (sym p) (one_missing l (subst (λ i. Missing code i taken e s t) (sym m) a))
 
 -- a part of the byte memory, k bytes from `used` on, now holds ys
 module _ (used k : ℕ) (bytes ys : List ℕ) (inside : used + k ≤ length bytes) (long : length ys ≡ k) where
@@ -98,7 +101,7 @@ module _ (code : Datum → List ℕ) (k : Kind) (used : ℕ) (bytes out' : List 
   one_run_missing most taken e is h same m =
       let l = part_long used left bytes (omega arith) in
       subst (λ bs. NotOne code k left taken e bytes bs s t) (sym (part_same used left bytes out' same))
-      (one_missing code k (kind.Run most) is used bytes s t taken e refl (subst (λ n. Missing code (kind.Run (min most n)) taken e s t) l m))
+      (one_missing code is used bytes refl (subst (λ n. Missing code (kind.Run (min most n)) taken e s t) l m))
 
   module _ (n : ℕ) (is : k ≡ kind.Fixed n) (h : used ≤ length bytes) (few : n ≤ left) where
     abbrev wide : ℕ
@@ -119,7 +122,7 @@ module _ (code : Datum → List ℕ) (k : Kind) (used : ℕ) (bytes out' : List 
     one_fixed_missing taken e same m =
         let l = part_long used wide bytes (omega (arith, wide_is)) ∙ wide_is in
         subst (λ bs. NotOne code k left taken e bytes bs s t) (sym (part_same used wide bytes out' same))
-        (one_missing code k (kind.Fixed n) is used bytes s t taken e (le-ltb left n few) (subst (λ n. Missing code (kind.Fixed n) taken e s t) l m))
+        (one_missing code is used bytes (le-ltb left n few) (subst (λ n. Missing code (kind.Fixed n) taken e s t) l m))
 
 -- no memory for a fixed
 pub one_fixed_lacks : (code : Datum → List ℕ) (k : Kind) (n used taken : ℕ) (bytes : List ℕ) (s : State) → k ≡ kind.Fixed n → length bytes - used < n → NotOne code k (length bytes - used) taken (record { refusal = ResultMemory; taken = taken }) bytes bytes s s

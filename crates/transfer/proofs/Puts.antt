@@ -3,6 +3,7 @@ use Rattle.std.proofs.Common.{◌≡◌, ℕ, ◌+◌, ◌-◌, ◌<◌, ◌≤�
 use Rattle.std.proofs.lemmas.List.{take_more, take_all, length-append, get_or-map, length-map}
 use Rattle.carrier.specs.Items.{Datum}
 use Rattle.carrier.specs.Meaning.{datum}
+use Rattle.std.specs.Borrow.{Bor}
 use Rattle.carrier.specs.declared.Item.{Item}
 use Rattle.carrier.specs.declared.Item.TheVariants.{Truth}
 use Rattle.carrier.specs.Steps.{State, Added, TooLong}
@@ -61,7 +62,7 @@ sofar_all code ds i s t h m =
     }
 
 -- an element of a list, as an item without references
-module _ (xs : List Item) (i : ℕ) (h : i < length xs) where
+module _ (xs : List (Item (Bor (List ℕ)))) (i : ℕ) (h : i < length xs) where
   abbrev pub at : Datum
   at = datum (get_or xs i (Truth false))
 

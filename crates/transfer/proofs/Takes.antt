@@ -9,8 +9,8 @@ use Rattle.transfer.specs.Cells.{within, read, items, bulks, Each, Took, TookAll
 use Rattle.carrier.specs.declared.CarrierFault.{CarrierFault}
 use Rattle.carrier.specs.declared.Kind.{Kind}
 use Rattle.carrier.specs.declared.Kind.TheVariants as kind
-use Rattle.transfer.specs.declared.cells.Cell.{Cell}
-use Rattle.transfer.specs.declared.cells.Cell.TheVariants.{Truth, Whole, Single, Double, Run, Fixed}
+use Rattle.transfer.specs.Cells.{Cell}
+use Rattle.carrier.specs.declared.Item.TheVariants.{Truth, Whole, Single, Double, Run, Fixed}
 use Rattle.transfer.specs.declared.cells.Span.{Span}
 use Rattle.refusal.specs.declared.Refusal.{Refusal}
 use Rattle.refusal.specs.declared.Refusal.TheVariants.{ResultMemory}
@@ -101,12 +101,12 @@ midway_none code ks cells bytes s = record {
   other_bytes = refl;
 }
 
-module _ (code : Datum → List ℕ) (ks : List Kind) (i used numbers : ℕ) (cells cells' : List Cell) (bytes bytes' bytes'' : List ℕ) (s t u : State) (m : Midway code ks i used numbers cells cells' bytes bytes' s t) (in-kinds : i < length ks) where
+module _ {code : Datum → List ℕ} {ks : List Kind} {i used numbers : ℕ} {cells cells' : List Cell} {bytes bytes' : List ℕ} {s t : State} (m : Midway code ks i used numbers cells cells' bytes bytes' s t) (in-kinds : i < length ks) where
   abbrev here : Kind
   here = get_or ks i kind.Truth
 
   -- one item more
-  module _ (long : length bytes' ≡ length bytes) (in_cells : i < length cells') (cell : Cell) (o : TookOne code here used cell bytes' bytes'' t u) where
+  module _ (long : length bytes' ≡ length bytes) (in_cells : i < length cells') {cell : Cell} {bytes'' : List ℕ} {u : State} (o : TookOne code here used cell bytes' bytes'' t u) where
     abbrev new : Datum
     new = read bytes'' cell
 
@@ -174,15 +174,15 @@ module _ (code : Datum → List ℕ) (ks : List Kind) (i used numbers : ℕ) (ce
   stop_cells e is h = stop e (ap (λ x. x.taken) is) (subst (Cause code here (length cells - i) (length bytes - used) t.row) (sym (ap (λ x. x.refusal) is)) (no_cell (omega arith)))
 
   -- the next item was not taken
-  pub stop_one : (e : CarrierFault) → length bytes' ≡ length bytes → i < length cells → NotOne code here (length bytes' - used) numbers e bytes' bytes'' t u → Stopped code ks i e cells cells' bytes bytes'' s u
-  stop_one e long h o =
+  pub stop_one : {bytes'' : List ℕ} {u : State} (e : CarrierFault) → length bytes' ≡ length bytes → i < length cells → NotOne code here (length bytes' - used) numbers e bytes' bytes'' t u → Stopped code ks i e cells cells' bytes bytes'' s u
+  stop_one {bytes''} {u} e long h o =
       subst (λ x. Stopped code ks i e cells cells' bytes x s u) (sym o.same_bytes)
       (subst (λ x. Stopped code ks i e cells cells' bytes bytes' s x) (sym o.same)
       (stop e o.numbers (cause_cells 1 (length cells - i) (length bytes - used) t.row e.refusal refl (omega arith) (subst (λ x. Cause code here 1 (x - used) t.row e.refusal) long o.cause))))
 
-pub took_all : (code : Datum → List ℕ) (ks : List Kind) (i used numbers : ℕ) (cells cells' : List Cell) (bytes bytes' : List ℕ) (s t : State) → length cells' ≡ length cells → i ≡ length ks → Midway code ks i used numbers cells cells' bytes bytes' s t
+pub took_all : {code : Datum → List ℕ} {ks : List Kind} {i used numbers : ℕ} {cells cells' : List Cell} {bytes bytes' : List ℕ} {s t : State} → length cells' ≡ length cells → i ≡ length ks → Midway code ks i used numbers cells cells' bytes bytes' s t
     → TookAll code ks (record { bytes = used; numbers = numbers }) cells cells' bytes bytes' s t
-took_all code ks i used numbers cells cells' bytes bytes' s t long is m =
+took_all {code} {ks} {i} {used} {numbers} {cells} {cells'} {bytes} {bytes'} {s} {t} long is m =
     let n = subst (λ x. Midway code ks x used numbers cells cells' bytes bytes' s t) is m in
     record {
       room = omega (arith, n.room);

@@ -8,10 +8,13 @@ use Rattle.carrier.specs.Lists.{codes}
 use Rattle.carrier.specs.declared.CarrierFault.{CarrierFault}
 use Rattle.carrier.specs.declared.Kind.{Kind}
 use Rattle.carrier.specs.declared.Kind.TheVariants as kind
-use Rattle.transfer.specs.declared.cells.Cell.{Cell}
-use Rattle.transfer.specs.declared.cells.Cell.TheVariants.{Truth, Whole, Single, Double, Run, Fixed}
+use Rattle.carrier.specs.declared.Item.{Item}
+use Rattle.carrier.specs.declared.Item.TheVariants.{Truth, Whole, Single, Double, Run, Fixed}
 use Rattle.transfer.specs.declared.cells.Span.{Span}
 use Rattle.transfer.specs.declared.cells.Taking.{Taking}
+
+abbrev pub Cell : Type 0
+Cell = Item Span
 
 abbrev pub within : List ℕ → Span → List ℕ
 within bytes s = take s.len (drop s.start bytes)

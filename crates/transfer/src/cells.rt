@@ -1,12 +1,12 @@
 //! Items in lent memory: a cell for each, and the bytes of runs and fixeds in a byte memory beside.
 
-ghost use Rattle.std.specs.Prelude.{◌≡◌, ℕ, length};
+ghost use Rattle.std.specs.Prelude.{◌≡◌};
 ghost use Rattle.carrier.specs.Meaning.{datum};
 ghost use Rattle.transfer.specs.Cells.{within, read};
 
 use carrier::Item;
 
-/// Where bytes lie in the byte memory.
+/// Where bytes lie in the byte memory. (A `Range` is not `Copy`, as a cell has to be.)
 #[derive(Clone, Copy)]
 pub struct Span {
     pub start: usize,
@@ -18,36 +18,25 @@ impl Span {
     pub fn of<'a>(self, bytes: &'a [u8]) -> &'a [u8]
         ensures its_bytes { result.now ≡ within bytes.now self }
     {
-        let from = self.start.min(bytes.len());
-        let len = self.len.min(bytes.len() - from);
-        &bytes[from..from + len]
+        let rest = &bytes[self.start.min(bytes.len())..];
+        &rest[..self.len.min(rest.len())]
     }
 }
 
-/// An item in lent memory.
-#[derive(Clone, Copy)]
-pub enum Cell {
-    Truth(bool),
-    Whole(i64),
-    Single(u32),
-    Double(u64),
-    Run(Span),
-    Fixed(Span),
-}
+/// An item in lent memory: the bytes of a run or a fixed lie in a byte memory beside.
+pub type Cell = Item<Span>;
 
-impl Cell {
-    /// The item, with its bytes in the byte memory.
-    pub fn item<'a>(self, bytes: &'a [u8]) -> Item<'a>
-        ensures is_read { datum result ≡ read bytes.now self }
-    {
-        match self {
-            Cell::Truth(b) => Item::truth(b),
-            Cell::Whole(z) => Item::whole(z),
-            Cell::Single(bits) => Item::single(bits),
-            Cell::Double(bits) => Item::double(bits),
-            Cell::Run(s) => Item::Run(s.of(bytes)),
-            Cell::Fixed(s) => Item::Fixed(s.of(bytes)),
-        }
+/// The item in the cell, with its bytes in the byte memory.
+pub fn item_in<'a>(cell: Cell, bytes: &'a [u8]) -> Item<&'a [u8]>
+    ensures is_read { datum result ≡ read bytes.now cell }
+{
+    match cell {
+        Cell::Truth(b) => Item::Truth(b),
+        Cell::Whole(z) => Item::Whole(z),
+        Cell::Single(bits) => Item::Single(bits),
+        Cell::Double(bits) => Item::Double(bits),
+        Cell::Run(s) => Item::Run(s.of(bytes)),
+        Cell::Fixed(s) => Item::Fixed(s.of(bytes)),
     }
 }
 

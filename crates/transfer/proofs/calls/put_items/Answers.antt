@@ -1,58 +1,38 @@
-use Rattle.std.proofs.Common.{ℕ, ◌≤◌, List, map, length, sym, refl, ap, subst, arith}
-use Rattle.std.proofs.lemmas.List.{take_all, length-map}
+use Rattle.std.proofs.Common.{map, sym, refl, subst, arith}
+use Rattle.std.proofs.lemmas.Result.{err_from_is_err_and}
 use Rattle.carrier.specs.Items.{Held}
 use Rattle.carrier.specs.Meaning.{datum}
-use Rattle.carrier.specs.Lists.{codes}
-use Rattle.carrier.specs.declared.Item.{Item}
-use Rattle.carrier.proofs.Rows.{all_more, all_all}
-use Rattle.transfer.proofs.Puts.{at, at_is, at_in, price_more, price_under, sofar_none, sofar_more, sofar_fits, sofar_all}
+use Rattle.carrier.proofs.Rows.{all_more}
+use Rattle.transfer.proofs.Puts.{at, at_is, at_in, price_more, price_under, sofar_more, sofar_fits}
 use Rattle.transfer.proofs.calls.put_items.Goals as goal
 
-past : (xs : List Item) (i : ℕ) → length xs ≤ i → length (map datum xs) ≤ i
-past xs i h = rw length-map h
-
-pub returns-then-p-left : goal.returns-then-p-left
-returns-then-p-left g c =
+pub returns-in_err-left : goal.returns-in_err-left
+returns-in_err-left g c =
     let xs = c.args.items.now in
-    let i = c.loop-x.x-index in
-    let h = c.loop-x-test.true in
+    let i = c.loop-item.item-index in
+    let h = c.loop-item-test.true in
     let u = price_under g.C.Carrier.code (map datum xs) i (at xs i h) (at_in xs i h) (at_is xs i h) in
-    record { all_or_none = (refl, record { over = omega (arith, c.price-p.ensures, u); same = refl }) }
+    let p = err_from_is_err_and c.from_residual.result c.from_residual.ensures.1 in
+    rw (p.1, p.2) (record { all_or_none = (grind arith, record { over = grind (arith, c.price-price.ensures, u, c.room-room.ensures, c.loop-item.invariant.0); same = refl }) })
 
-pub loop-x-preserved : goal.loop-x-preserved
-loop-x-preserved g c =
+pub loop-item-preserved : goal.loop-item-preserved
+loop-item-preserved g c =
     let xs = c.args.items.now in
-    let i = c.loop-x.x-index in
-    let h = c.loop-x-test.true in
+    let i = c.loop-item.item-index in
+    let h = c.loop-item-test.true in
     let m = price_more g.C.Carrier.code (map datum xs) i (at xs i h) (at_in xs i h) (at_is xs i h) in
-    (omega (arith, c.price-p.ensures, m), all_more Held (map datum xs) i (at xs i h) (at_in xs i h) c.loop-x.invariant.1 (subst Held (sym (at_is xs i h)) c.item_held.ensures.held))
-
-pub loop-y-init : goal.loop-y-init
-loop-y-init g c =
-    let xs = c.args.items.now in
-    let i = c.loop-x.x-index in
-    let e = ap (λ l. length (codes g.C.Carrier.code l)) (take_all i (map datum xs) (past xs i c.loop-x-test.false)) in
-    sofar_none g.C.Carrier.code (map datum xs) (g.C.Carrier.state c.args.c.now) (omega (arith, e, c.room-room.ensures))
+    (grind (arith, c.price-price.ensures, m, c.loop-item.invariant.0), all_more Held (map datum xs) i (at xs i h) (at_in xs i h) c.loop-item.invariant.1 (subst Held (sym (at_is xs i h)) c.item_held.ensures.held))
 
 pub returns-in_err-put : goal.returns-in_err-put
 returns-in_err-put g c =
     let xs = c.args.items.now in
-    let i = c.loop-y.y-index in
-    let h = c.loop-y-test.true in
-    absurd (sofar_fits g.C.Carrier.code (map datum xs) i (at xs i h) (at_in xs i h) (at_is xs i h) _ _ _ c.loop-y.invariant c.in_err-put.ensures.1)
+    let i = c.loop-item-2.item-index in
+    let h = c.loop-item-2-test.true in
+    absurd (sofar_fits g.C.Carrier.code (map datum xs) i (at xs i h) (at_in xs i h) (at_is xs i h) _ _ _ c.loop-item-2.invariant c.in_err-put.ensures.1)
 
-pub loop-y-preserved : goal.loop-y-preserved
-loop-y-preserved g c =
+pub loop-item-2-preserved : goal.loop-item-2-preserved
+loop-item-2-preserved g c =
     let xs = c.args.items.now in
-    let i = c.loop-y.y-index in
-    let h = c.loop-y-test.true in
-    sofar_more g.C.Carrier.code (map datum xs) i (at xs i h) (at_in xs i h) (at_is xs i h) _ _ _ c.loop-y.invariant c.in_ok-put.ensures
-
-pub returns : goal.returns
-returns g c =
-    let xs = c.args.items.now in
-    let i = c.loop-x.x-index in
-    let j = c.loop-y.y-index in
-    let k = past xs i c.loop-x-test.false in
-    let e = ap (λ l. length (codes g.C.Carrier.code l)) (take_all i (map datum xs) k) in
-    record { all_or_none = (omega (arith, e), all_all Held (map datum xs) i k c.loop-x.invariant.1, sofar_all g.C.Carrier.code (map datum xs) j _ _ (past xs j c.loop-y-test.false) c.loop-y.invariant) }
+    let i = c.loop-item-2.item-index in
+    let h = c.loop-item-2-test.true in
+    sofar_more g.C.Carrier.code (map datum xs) i (at xs i h) (at_in xs i h) (at_is xs i h) _ _ _ c.loop-item-2.invariant c.in_ok-put.ensures
