@@ -3,16 +3,15 @@
 #![tactic(auto)]
 
 ghost use Rattle.std.specs.Prelude.{◌≡◌, string_bytes};
-ghost use Rattle.answers.specs.Refusing.{sentence_of, taken_text, numbered_text, case_text, bad_text};
+ghost use Rattle.answers.specs.Refusing.{sentence_of, case_text, bad_text};
 ghost use Rattle.print.specs.Printing.{Adds};
 
-use print::number;
 use refusal::{Case, Refusal};
 use spelling::bad::Bad;
 use spelling::names::Named;
 use std::alloc::AllocError;
 
-/// The refusal in words, for people.
+/// The refusal in words, for people. (No `Display`: the type is another crate's.)
 pub(crate) fn sentence(refusal: Refusal) -> &'static str
     ensures in_words { result.now ≡ sentence_of refusal }
 {
@@ -42,39 +41,22 @@ pub(crate) fn sentence(refusal: Refusal) -> &'static str
     }
 }
 
-/// How many numbers had been taken, where the case has it.
-fn taken(out: &mut String, count: Option<u64>) -> Result<(), AllocError>
-    ensures added { Adds result (taken_text count) (string_bytes out.old) (string_bytes out.new) }
-{
-    match count {
-        Some(n) => {
-            out.push_str(" taken ")?;
-            number(out, n)
-        }
-        None => Ok(()),
-    }
-}
-
-/// The number, the layer and the field of a refusal.
-fn numbered(out: &mut String, case: Case) -> Result<(), AllocError>
-    ensures added { Adds result (numbered_text case) (string_bytes out.old) (string_bytes out.new) }
-{
-    out.push_str("refused ")?;
-    number(out, u64::from(case.refusal.number()))?;
-    out.push_str(" ")?;
-    out.push_str(case.layer.name())?;
-    out.push_str(" ")?;
-    number(out, u64::from(case.field.0))
-}
-
-/// A refusal: its numbers, and then the same in words.
+/// A refusal: its number, its layer and its field, how many numbers had been taken where it has that, and then the
+/// same in words.
 pub fn case(out: &mut String, case: Case) -> Result<(), AllocError>
     ensures added { Adds result (case_text case) (string_bytes out.old) (string_bytes out.new) }
 {
-    numbered(out, case)?;
-    taken(out, case.taken)?;
-    out.push_str(" -- ")?;
-    out.push_str(sentence(case.refusal))
+    let layer = case.layer.name();
+    write!(
+        out,
+        "refused {} {layer} {}",
+        case.refusal.number(),
+        case.field.0
+    )?;
+    if let Some(n) = case.taken {
+        write!(out, " taken {n}")?;
+    }
+    write!(out, " -- {}", sentence(case.refusal))
 }
 
 /// That a line is no call, with its number and the reason.
