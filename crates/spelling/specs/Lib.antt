@@ -1,4 +1,3 @@
 pub mod Reasons
 pub mod Decimals
 pub mod Naming
-pub mod Layers

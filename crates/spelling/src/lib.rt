@@ -4,6 +4,5 @@
 #![tactic(auto)]
 
 pub mod bad;
-pub mod layers;
 pub mod names;
 pub mod numbers;
