@@ -1,5 +1,6 @@
 -- What is left of a line that is being cut. Assumes nothing.
 use Rattle.std.specs.Prelude.{◌≡◌, ℕ, List, [], ◌∷◌, Some, None, Option}
+use Rattle.std.specs.Option.{option_map}
 use Rattle.script.specs.Lexing.{Tok, opening, closing, word, tokens}
 use Rattle.script.specs.declared.line.Pair.{Pair}
 use Rattle.script.specs.declared.line.Token.{Token}
@@ -18,6 +19,9 @@ tok (Word w) = word w.now
 abbrev pub Cut : Option Token → List Tok → List Tok → Type 0
 Cut (Some t) before after = before ≡ tok t ∷ after
 Cut None before after = (before ≡ []) × (after ≡ [])
+
+abbrev pub tok_of : Option Token → Option Tok
+tok_of t = option_map tok t
 
 abbrev pub first_of : List Tok → Option Tok
 first_of [] = None

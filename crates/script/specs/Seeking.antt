@@ -45,8 +45,8 @@ seeks read (closing ∷ ts) = Err Brackets
 seeks read (word w ∷ ts) = cond (bytes_eq w (codes "find")) (last_in read ts) (and_then (read w) (λ x. behind_all (alone x) (seeks read ts)))
 
 -- the keys so far, if all of them are keys
-abbrev pub all_of : {K V : Type 0} → (K → V) → Option (Vec K Global) → Option (List V)
-all_of means ks = option_map (λ v. map means (vec_items v)) ks
+abbrev pub so_far : {K V : Type 0} → (K → V) → Option (Vec K Global) → Option (List V)
+so_far means ks = option_map (λ v. map means (vec_items v)) ks
 
 abbrev pub quest_of : {K V : Type 0} → (K → V) → Sought K → Quest V
 quest_of means s = (map means (vec_items s.among), means s.key)

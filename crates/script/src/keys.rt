@@ -1,7 +1,7 @@
 //! Field ids and field names as keys that words spell.
 
 ghost use Rattle.std.specs.Prelude.{◌≡◌, ℕ, List};
-ghost use Rattle.keyspace.specs.Names.{text_of as bytes_in};
+ghost use Rattle.keyspace.specs.Names.{text_of};
 ghost use Rattle.script.specs.Keys.{id_of, name_of};
 
 use crate::sought::Spelled;
@@ -27,7 +27,7 @@ impl Spelled for FieldId {
 impl Spelled for Name {
     ghost Value = { List ℕ };
 
-    ghost means = { bytes_in };
+    ghost means = { text_of };
 
     ghost spelled = { name_of };
 

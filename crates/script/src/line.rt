@@ -4,9 +4,8 @@ ghost use Rattle.std.specs.Prelude.{◌≡◌, ◌<◌, false, [], ◌∷◌, le
 ghost use Rattle.std.specs.Iterator.{item_count};
 ghost use Rattle.std.specs.List.{prefix_len};
 ghost use Rattle.script.specs.Lexing.{blank, in_word, tokens, uncarried, remark};
-ghost use Rattle.script.specs.Cutting.{left, Cut, tok, first_of, couple};
+ghost use Rattle.script.specs.Cutting.{left, Cut, tok, tok_of, first_of, couple};
 ghost use Rattle.script.specs.Shapes.{Reads, a_word_or, an_argument, at_end, a_pair};
-ghost use Rattle.std.specs.Option.{option_map};
 
 use spelling::bad::Bad;
 use std::alloc::Global;
@@ -99,7 +98,7 @@ impl<'a> Tokens<'a> {
 
     /// The next token, which stays where it is.
     pub(crate) fn peek(&self) -> Option<Token<'a>>
-        ensures comes_first { option_map tok result ≡ first_of (left self.now) }
+        ensures comes_first { tok_of result ≡ first_of (left self.now) }
     {
         let mut ahead = *self;
         ahead.next()

@@ -1,10 +1,10 @@
 //! Keys that are looked for: the words before `find`, and the one behind it. No verb reads them yet.
 
-ghost use Rattle.std.specs.Prelude.{◌≡◌, ℕ, List, Option as Maybe, Result as Outcome};
+ghost use Rattle.std.specs.Prelude.{◌≡◌, ℕ, List, Option, Result};
 ghost use Rattle.std.specs.Option.{option_map};
-ghost use Rattle.spelling.specs.declared.bad.Bad.{Bad as Reason};
+ghost use Rattle.spelling.specs.declared.bad.Bad.{Bad};
 ghost use Rattle.script.specs.Cutting.{left};
-ghost use Rattle.script.specs.Seeking.{behind_all, last_in, quest_of, seeks, all_of};
+ghost use Rattle.script.specs.Seeking.{behind_all, last_in, quest_of, seeks, so_far};
 ghost use Rattle.script.specs.Shapes.{Meets};
 
 use crate::line::Tokens;
@@ -19,7 +19,7 @@ pub(crate) trait Spelled: Copy {
     ghost means: { Self → Value };
 
     // what a word spells: none where it is well formed and spells no key
-    ghost spelled: { List ℕ → Outcome (Maybe Value) Reason };
+    ghost spelled: { List ℕ → Result (Option Value) Bad };
 
     /// The key that the word spells.
     fn read(heap: Global, word: &[u8]) -> Result<Option<Self>, Bad>
@@ -38,7 +38,7 @@ fn read_last<K: Spelled>(
     tokens: &mut Tokens,
     among: Option<Vec<K>>,
 ) -> Result<Option<Sought<K>>, Bad>
-    ensures as_spelled { Meets (option_map (quest_of K.Spelled.means)) result (behind_all (all_of K.Spelled.means among) (last_in K.Spelled.spelled (left tokens.old))) }
+    ensures as_spelled { Meets (option_map (quest_of K.Spelled.means)) result (behind_all (so_far K.Spelled.means among) (last_in K.Spelled.spelled (left tokens.old))) }
 {
     let word = tokens.word()?;
     tokens.end()?;

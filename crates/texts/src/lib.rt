@@ -64,6 +64,7 @@ fn bits(word: &[u8], digits: usize) -> Option<u64>
     Some(n)
 }
 
+// `single` and `double` stay two: the digits and the type go together, which a type parameter would not say.
 /// The bits of a single, of which the word spells all eight digits.
 pub fn single(word: &[u8]) -> Result<u32, Bad>
     ensures spelled { result ≡ ok_or (bits_of 8 word.now) NotBits }

@@ -2,7 +2,7 @@ use Rattle.std.proofs.Common.{◌≡◌, ◌⊎◌, ◌∷◌, [], map, Some, No
 use Rattle.std.specs.Option.{option_map}
 use Rattle.std.proofs.lemmas.List.{map-append}
 use Rattle.std.proofs.lemmas.Result.{err_from_is_err_and}
-use Rattle.script.specs.Seeking.{all_of, behind_all, quest_of, seeks}
+use Rattle.script.specs.Seeking.{so_far, behind_all, quest_of, seeks}
 use Rattle.script.specs.Cutting.{left}
 use Rattle.script.specs.Shapes.{Meets}
 use Rattle.script.proofs.Seeks.{behind_fails, seeks_none, seeks_find, seeks_bad, seeks_key, behind_key, behind_no_key}
@@ -20,7 +20,7 @@ pub returns-then-is : goal.returns-then-is
 returns-then-is g c = record {
   as_spelled =
       let m = g.K.Spelled.means in
-      let s = all_of m c.loop-among.among in
+      let s = so_far m c.loop-among.among in
       let e = ap (behind_all s) (sym (seeks_find g.K.Spelled.spelled _ _ _ c.in_ok-word.ensures.the_argument c.if-is.ensures.compared)) ∙ c.loop-among.invariant in
       subst (Meets (option_map (quest_of m)) c.read_last.result) e c.read_last.ensures.as_spelled;
 }
@@ -47,17 +47,17 @@ loop-among-preserved-in-Some-among-3 g c =
     ∙ ap (λ l. behind_all (Some l) rest) (map-append m xs (key ∷ []))
     ∙ behind_key (map m xs) (m key) rest
     ∙ ap (behind_all (Some (map m xs))) (sym (seeks_key read _ _ _ c.in_ok-word.ensures.the_argument c.if-is.ensures.compared (Some (m key)) spelled))
-    ∙ ap (λ s. behind_all (all_of m s) (seeks read (left c.loop-among.tokens))) (sym c.in-Some-Some.is-1)
+    ∙ ap (λ s. behind_all (so_far m s) (seeks read (left c.loop-among.tokens))) (sym c.in-Some-Some.is-1)
     ∙ c.loop-among.invariant
 
 pub loop-among-preserved : goal.loop-among-preserved
 loop-among-preserved g c =
     let m = g.K.Spelled.means in
     let read = g.K.Spelled.spelled in
-    let keys = all_of m c.loop-among.among in
+    let keys = so_far m c.loop-among.among in
     let key = option_map m c.in_ok-key.field-0 in
     let none : (keys ≡ None) ⊎ (key ≡ None) = elim c.in_default.branch [
-      | in_default-via-in-Some+in_default w ↦ inl (ap (all_of m) w.in_default.is-1)
+      | in_default-via-in-Some+in_default w ↦ inl (ap (so_far m) w.in_default.is-1)
       | in_default-via-in_default w ↦ inr (ap (option_map m) w.in_default.is-0)
     ] in
     behind_no_key keys key (seeks read (left c.word.new.self)) none
