@@ -1,5 +1,5 @@
 -- One entry more in an index. Assumes nothing.
-use Rattle.std.proofs.Common.{◌≡◌, ℕ, ◌+◌, ◌%◌, ◌<◌, ◌≤◌, List, None, Some, Option, length, get_or, set, replicate, sym, ap, ◌∙◌, subst, ⊎_elim, arith}
+use Rattle.std.proofs.Common.{◌≡◌, ℕ, ◌+◌, ◌%◌, ◌<◌, ◌≤◌, List, None, Some, Option, length, get_or, set, sym, ap, ◌∙◌, subst, ⊎_elim, arith}
 use Rattle.std.proofs.lemmas.List.{get_or-set_same, get_or-set_other, length-set}
 use Rattle.std.proofs.lemmas.Bool.{cases_lt}
 use Rattle.keyspace.specs.Positions.{Meets}
@@ -7,7 +7,7 @@ use Rattle.keyspace.specs.Slots.{Reached, IndexOf, walked}
 use Rattle.keyspace.specs.Spots.{IsFound, IsFree}
 use Rattle.keyspace.specs.declared.slot.Taken.{Taken}
 use Rattle.keyspace.proofs.Reading.{one_meaning}
-use Rattle.keyspace.proofs.Taking.{not_empty, taken_none, empty_at, taken_set, still_taken, written}
+use Rattle.keyspace.proofs.Taking.{not_empty, taken_set, still_taken, written}
 use Rattle.keyspace.proofs.Walks.{none_by_free}
 
 module _ {E V : Type 0} (means : E → V) (numberof : V → ℕ) (xs : List E) (count : ℕ) (slots : List (Option Taken)) (index : IndexOf means numberof xs count slots) (v : V) (here : Meets means xs count v) where
@@ -89,18 +89,6 @@ module _ {E V : Type 0} (means : E → V) (numberof : V → ℕ) (xs : List E) (
     -- the key is written into an empty slot
     pub written_in : IndexOf means numberof xs (count + 1) (set slots at (Some (record { number = number; position = count })))
     written_in = subst (λ n. IndexOf means numberof xs (count + 1) (set slots at (Some (record { number = n; position = count })))) (sym f.its_number) added
-
--- empty slots are an index of no entries
-pub at_first : {E V : Type 0} (means : E → V) (numberof : V → ℕ) (xs : List E) (n : ℕ) → IndexOf means numberof xs 0 (replicate n None)
-at_first means numberof xs n =
-    let none : (j : ℕ) (t : Taken) → get_or (replicate n None) j None ≡ Some t → ⊥ = λ j t h. not_empty (get_or (replicate n None) j None) t h (empty_at n j) in
-    record {
-      fits = omega arith;
-      room = omega (arith, taken_none n);
-      points = λ j t h. absurd (none j t h);
-      first = λ j t h q v lt mp mq. none j t h;
-      reach = λ p v lt m. absurd (omega arith);
-    }
 
 -- an index stays one where the entries that it has entered mean what they meant
 pub carried : {D E V : Type 0} (means : D → V) (means' : E → V) (numberof : V → ℕ) (xs : List D) (ys : List E) (count : ℕ) (slots : List (Option Taken))

@@ -1,8 +1,7 @@
 -- Slots that are taken, and a walk round them all. Assumes nothing.
-use Rattle.std.proofs.Common.{◌≡◌, ℕ, suc, ◌+◌, ◌-◌, ◌%◌, ◌<◌, ◌≤◌, ◌⊎◌, List, [], ◌∷◌, Some, None, Option, length, get_or, set, replicate, cond, sym, refl, ap, ◌∙◌, inl, inr, ⊎_elim, mod-lt, arith}
+use Rattle.std.proofs.Common.{◌≡◌, ℕ, suc, ◌+◌, ◌-◌, ◌%◌, ◌<◌, ◌≤◌, ◌⊎◌, List, [], ◌∷◌, Some, None, Option, length, get_or, set, cond, sym, refl, ap, ◌∙◌, inl, inr, ⊎_elim, mod-lt, arith}
 use Rattle.std.specs.Option.{is_some}
-use Rattle.std.proofs.lemmas.List.{get_or-set_same, get_or-set_other, get_or-replicate, get_or_past, set_past, length-replicate}
-use Rattle.std.proofs.lemmas.List.Folds.{sum_by-replicate}
+use Rattle.std.proofs.lemmas.List.{get_or-set_same, get_or-set_other, set_past}
 use Rattle.std.proofs.lemmas.List.Sums.{sum_by-cons, sum_by-set}
 use Rattle.std.proofs.lemmas.Bool.{cases_lt, cases_eq}
 use Rattle.std.proofs.lemmas.Bool.Decides.{nat_tests}
@@ -28,17 +27,6 @@ taken_all [] all = refl
 taken_all (None ∷ ss) all = absurd (all 0 (omega arith) refl)
 taken_all (Some t ∷ ss) all =
     omega (arith, sum_by-cons counted (Some t) ss, taken_all ss (λ j h. all (suc j) (omega arith)))
-
--- empty slots
-pub taken_none : (n : ℕ) → taken (replicate n None) ≡ 0
-taken_none n = omega (arith, sum_by-replicate counted n None)
-
-pub empty_at : (n k : ℕ) → get_or {A = Option Taken} (replicate n None) k None ≡ None
-empty_at n k =
-    ⊎_elim
-    (λ lt. get_or-replicate n k None None lt)
-    (λ le. get_or_past (replicate n None) k None (omega (arith, let none : Option Taken = None in length-replicate n none)))
-    (cases_lt k n)
 
 -- a walk comes to each slot
 round : (home j n : ℕ) → home < n → j < n → (i : ℕ) × ((i < n) × (walked home i n ≡ j))

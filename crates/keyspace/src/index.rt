@@ -11,6 +11,7 @@ use crate::slot::{Slot, Spot, Taken, TooFewSlots};
 use crate::space::{KeySpace, Keyed, NumberedKeySpace};
 
 /// A list of entries, and the key space of their keys.
+// No slots are in it: they stay the caller's, who may change them, so that they are an index is said where they are passed.
 #[derive_where(Clone, Copy)]
 pub struct KeyedList<'a, S, E> {
     pub space: &'a S,
@@ -39,6 +40,7 @@ impl<S: NumberedKeySpace, E: Keyed<S::Key>> KeyedList<'_, S, E> {
         }
         let number = self.space.number(key);
         let home = number as usize % count;
+        // By places and not by slots, since a free one is answered by its place.
         for at in (home..count).chain(0..home) {
             match slots[at] {
                 None => return Spot::Free { at, number },

@@ -1,5 +1,5 @@
 -- An index of distinct keys where an entry is replaced or added. Assumes nothing.
-use Rattle.std.proofs.Common.{◌≡◌, ℕ, zero, suc, ◌+◌, ◌%◌, ◌<◌, ◌≤◌, List, [], ◌∷◌, ◌++◌, Some, Option, length, get_or, take, set, sym, refl, ap, ◌∙◌, subst, ⊎_elim, arith}
+use Rattle.std.proofs.Common.{◌≡◌, ℕ, ◌+◌, ◌%◌, ◌<◌, ◌≤◌, List, [], ◌∷◌, ◌++◌, Some, Option, length, get_or, take, set, sym, refl, ap, ◌∙◌, subst, ⊎_elim, arith}
 use Rattle.std.proofs.lemmas.List.{get_or-set_same, get_or-set_other, length-set, set-set, set-get_or, length_push, get_or_append_left, get_or_push, length-take-le, get_or-take}
 use Rattle.std.proofs.lemmas.Bool.{cases_lt, cases_eq}
 use Rattle.keyspace.specs.Positions.{At, Meets, Absent}
@@ -11,12 +11,6 @@ use Rattle.keyspace.proofs.Reading.{one_entry}
 use Rattle.keyspace.proofs.Taking.{no_room, not_empty}
 use Rattle.keyspace.proofs.Walks.{none_by_free}
 use Rattle.keyspace.proofs.Steps.{carried, written_in}
-
-pub take_set_in : {E : Type 0} (n : ℕ) (xs : List E) (i : ℕ) (y : E) → take n (set xs i y) ≡ set (take n xs) i y
-take_set_in zero xs i y = refl
-take_set_in (suc n) [] i y = refl
-take_set_in (suc n) (x ∷ xs) zero y = refl
-take_set_in (suc n) (x ∷ xs) (suc i) y = ap (λ zs. x ∷ zs) (take_set_in n xs i y)
 
 -- what stands in the front of a list stands in the list
 pub at_in_all : {E : Type 0} (n : ℕ) (xs : List E) (p : ℕ) (e : E) → n ≤ length xs → At (take n xs) p e → At xs p e

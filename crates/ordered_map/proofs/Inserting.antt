@@ -1,10 +1,10 @@
 -- One insertion: what it makes of the entries and their index, and of the map. Assumes nothing.
 use Rattle.std.proofs.Common.{◌≡◌, ℕ, ◌+◌, ◌<◌, ◌≤◌, List, [], ◌∷◌, ◌++◌, Some, Option, length, get_or, take, set, sym, refl, ap, ◌∙◌, subst, ⊎_elim, arith}
 use Rattle.std.proofs.Math.Logic.{∥∥₁_elim, ∥∥₁_map}
+use Rattle.std.proofs.Math.Seq.{take-set-lt}
 use Rattle.std.proofs.lemmas.Bool.{cases_lt}
 use Rattle.std.proofs.lemmas.List.{length-take-le, take_more_set, get_or-take, get_or_default}
 use Rattle.keyspace.specs.Positions.{At, Meets}
-use Rattle.keyspace.specs.Slots.{IndexOf}
 use Rattle.keyspace.specs.Spots.{IsFree, Passed}
 use Rattle.keyspace.specs.declared.slot.Taken.{Taken}
 use Rattle.keyspace.specs.declared.space.KeySpace.{Ghosts}
@@ -14,7 +14,7 @@ use Rattle.ordered_map.specs.Maps.{Replaced, Appended, Refused, means_of, entrie
 use Rattle.ordered_map.specs.declared.entry.Entry.{Entry}
 use Rattle.ordered_map.specs.declared.map.OrderedMap.{OrderedMap}
 use Rattle.keyspace.proofs.Walks.{none_by_full}
-use Rattle.ordered_map.proofs.Growing.{take_set_in, at_in_all, mapped_set, mapped_push, absent_by_free, full_by_full}
+use Rattle.ordered_map.proofs.Growing.{at_in_all, mapped_set, mapped_push, absent_by_free, full_by_full}
 
 -- the entries and their index stay a map
 module _ {K V W : Type 0} (means : K → W) (numberof : W → ℕ) (es : List (Entry K V)) (slots : List (Option Taken)) (len : ℕ) (within : len ≤ length es)
@@ -26,7 +26,7 @@ module _ {K V W : Type 0} (means : K → W) (numberof : W → ℕ) (es : List (E
       let in_front : place < length (take len es) = omega (arith, length-take-le len es within) in
       let at : At (take len es) place old = record { within = in_front; reads = get_or_default es place d old (omega arith) ∙ sym (get_or-take len es place old lt) } in
       ∥∥₁_map is
-      (λ m. subst (λ zs. Mapped (key_of means) numberof zs slots) (sym (take_set_in len es place new))
+      (λ m. subst (λ zs. Mapped (key_of means) numberof zs slots) (sym (take-set-lt len es place new lt))
       (mapped_set (key_of means) numberof (take len es) slots place old new at refl m))
 
   pub appended_map : (new : Entry K V) (at number : ℕ) → len < length es → IsFree (key_of means) numberof (take len es) slots (means new.key) at number
@@ -39,14 +39,6 @@ module _ {K V W : Type 0} (means : K → W) (numberof : W → ℕ) (es : List (E
 
 pub used : {S V K : Type 0} {space : Ghosts S K} (m : OrderedMap S V K space) → length (entries_of m) ≡ m.len
 used m = length-take-le m.len m.entries.now m.within
-
--- what a look-up by the index of a map does not find is not there
-pub absent_at_none : {S V K : Type 0} {space : Ghosts S K} (m : OrderedMap S V K space) (k : K) (es : List (Entry K V)) → es ≡ entries_of m
-    → (IndexOf (key_of (means_of m)) space.numberof es (length es) m.slots.now → (q : ℕ) → Meets (key_of (means_of m)) es q (means_of m k) → ⊥)
-    → (q : ℕ) → Meets (key_of (means_of m)) (entries_of m) q (means_of m k) → ⊥
-absent_at_none {space = space} m k es e none q h =
-    ∥∥₁_elim m.is_map (λ x y. absurd x)
-    (λ is. none (subst (λ zs. IndexOf (key_of (means_of m)) space.numberof zs (length zs) m.slots.now) (sym e) is.index) q (subst (λ zs. Meets (key_of (means_of m)) zs q (means_of m k)) (sym e) h))
 
 module _ {S V K : Type 0} {space : Ghosts S K} (m : OrderedMap S V K space) (new : Entry K V) where
   abbrev key : Entry K V → space.Value
@@ -90,7 +82,7 @@ module _ {S V K : Type 0} {space : Ghosts S K} (m : OrderedMap S V K space) (new
           at = found.at;
           same = found.same;
           was = all.0;
-          is = ap (λ k. take k n.entries.now) len ∙ ap (take m.len) all.1 ∙ take_set_in m.len m.entries.now place entry;
+          is = ap (λ k. take k n.entries.now) len ∙ ap (take m.len) all.1 ∙ take-set-lt m.len m.entries.now place entry (omega (arith, found.at.within, used m));
         }
 
     -- the key is new, and comes last

@@ -11,6 +11,7 @@ use keyspace::space::{KeySpace, NumberedKeySpace};
 pub mod calls;
 
 /// Keys of a key space with their values, in the order of their first insertion, and an index of the keys.
+// The entries stand beside how many of them are in use, since this crate takes no memory from the heap: the caller lends it.
 #[derive(Drop)]
 pub struct OrderedMap<'a, S: NumberedKeySpace, V> {
     space: &'a S,
@@ -18,7 +19,7 @@ pub struct OrderedMap<'a, S: NumberedKeySpace, V> {
     slots: &'a mut [Slot],
     len: usize,
     ghost within: { len ≤ length entries.now },
-    ghost is_map: { ∥ Mapped (key_of (S.means space.now)) S.numberof (take len entries.now) slots.now ∥₁ },
+    pub ghost is_map: { ∥ Mapped (key_of (S.means space.now)) S.numberof (take len entries.now) slots.now ∥₁ },
 }
 
 /// The map has no room for one key more.

@@ -12,9 +12,10 @@ use crate::map::{MapFull, OrderedMap};
 use keyspace::index::KeyedList;
 use keyspace::slot::{Slot, Spot, Taken};
 use keyspace::space::{KeySpace, Keyed, NumberedKeySpace};
+use std::mem;
 
 impl<'a, S: NumberedKeySpace, V: Copy> OrderedMap<'a, S, V> {
-    /// A map of no keys over this memory, whatever it holds. An index of no entries is never refused.
+    /// A map of no keys over this memory, whatever it holds.
     pub fn new(
         space: &'a S,
         entries: &'a mut [Entry<S::Key, V>],
@@ -24,12 +25,7 @@ impl<'a, S: NumberedKeySpace, V: Copy> OrderedMap<'a, S, V> {
         ensures no_keys { entries_of result ≡ [] }
         ensures room { capacity_of result ≡ min (length entries.old) (length slots.old) }
     {
-        let none: [Entry<S::Key, V>; 0] = [];
-        let _ = KeyedList {
-            space,
-            entries: &none,
-        }
-        .build(slots);
+        slots.fill(None);
         OrderedMap {
             space,
             entries,
@@ -67,15 +63,22 @@ impl<'a, S: NumberedKeySpace, V: Copy> OrderedMap<'a, S, V> {
         self.entries.len().min(self.slots.len())
     }
 
+    /// Its entries, with the key space of their keys.
+    fn list(&self) -> KeyedList<'_, S, Entry<S::Key, V>>
+        ensures space { result.space.now ≡ self.now.space.now }
+        ensures in_order { result.entries.now ≡ entries_of self.now }
+    {
+        KeyedList {
+            space: self.space,
+            entries: self.entries(),
+        }
+    }
+
     /// Where the key is, or where there is room for it.
     fn spot(&self, key: S::Key) -> Spot
         ensures ends_at { EndsAt (key_of (means_of self.now)) S.numberof (entries_of self.now) self.now.slots.now (means_of self.now key) result }
     {
-        let list = KeyedList {
-            space: self.space,
-            entries: self.entries(),
-        };
-        list.seek(self.slots, key)
+        self.list().seek(self.slots, key)
     }
 
     /// Puts another value at `place`, and answers the one that was there.
@@ -86,9 +89,8 @@ impl<'a, S: NumberedKeySpace, V: Copy> OrderedMap<'a, S, V> {
         ensures len { self.new.len ≡ self.old.len }
         ensures space { self.new.space ≡ self.old.space }
     {
-        let old = self.entries[place].value;
-        self.entries[place].value = value;
-        old
+        let entries = &mut *self.entries;
+        mem::replace(&mut entries[place].value, value)
     }
 
     /// Adds an entry at the end, and takes the slot `at` for it.
@@ -132,12 +134,8 @@ impl<'a, S: NumberedKeySpace, V: Copy> OrderedMap<'a, S, V> {
         ensures value { ValueOrNone (means_of self.now) (entries_of self.now) (means_of self.now key) result }
         ensures latest_value { LatestOfAny (means_of self.now) (entries_of self.now) (means_of self.now key) result }
     {
-        let entries = self.entries();
-        let list = KeyedList {
-            space: self.space,
-            entries,
-        };
+        let list = self.list();
         let place = list.lookup(self.slots, key)?;
-        Some(entries[place].value)
+        Some(list.entries[place].value)
     }
 }
