@@ -1,10 +1,6 @@
 -- Where keys stand in a list of entries. `means` gives what an entry's key means. Assumes nothing.
 use Rattle.std.specs.Prelude.{◌≡◌, ℕ, ◌<◌, List, length, Some, None, Option, slice_index_or}
 
--- what the key of an entry means
-abbrev pub meaning_of : {E K V : Type 0} → (K → V) → (E → K) → E → V
-meaning_of means keyed entry = means (keyed entry)
-
 -- the entry e stands at p
 pub record At {E : Type 0} (xs : List E) (p : ℕ) (e : E) : Type 0 where
   pub within : p < length xs

@@ -3,9 +3,7 @@
 //! position, so the key space is asked only where the numbers agree.
 
 ghost use Rattle.std.specs.Prelude.{◌≡◌, ◌↔◌, ◌+◌, ◌<◌, true, false, length, is_ok, IfOk, IsTrue, nat_le};
-ghost use Rattle.keyspace.specs.Positions.{Meets, FirstOrNone, OnlyMeeting, meaning_of};
-ghost use Rattle.keyspace.specs.Slots.{IndexOf};
-ghost use Rattle.keyspace.specs.Spots.{EndsAt};
+ghost use Rattle.keyspace.specs.Lists.{FirstOfKey, HasKeyAt, IsIndex, IsIndexOf, SomeOfKey, WalkEndsAt};
 
 use crate::slot::{Slot, Spot, Taken, TooFewSlots};
 use crate::space::{KeySpace, Keyed, NumberedKeySpace};
@@ -21,7 +19,7 @@ pub struct KeyedList<'a, S, E> {
 impl<S: NumberedKeySpace, E: Keyed<S::Key>> KeyedList<'_, S, E> {
     /// Says whether a slot that is so taken is that of `key`.
     fn is_taken_by(&self, taken: Taken, key: S::Key, number: u32) -> bool
-        ensures { IsTrue result ↔ ((taken.number ≡ number) × Meets (meaning_of (S.means self.now.space.now) E.keyed) self.now.entries.now taken.position (S.means self.now.space.now key)) }
+        ensures { IsTrue result ↔ ((taken.number ≡ number) × HasKeyAt S.KeySpace E.keyed self.now taken.position key) }
     {
         taken.number == number
             && self
@@ -32,7 +30,7 @@ impl<S: NumberedKeySpace, E: Keyed<S::Key>> KeyedList<'_, S, E> {
 
     /// Where a walk for `key` ends, for a caller that keeps an index of its own, as a map that grows.
     pub fn seek(&self, slots: &[Slot], key: S::Key) -> Spot
-        ensures ends_at { EndsAt (meaning_of (S.means self.now.space.now) E.keyed) S.numberof self.now.entries.now slots.now (S.means self.now.space.now key) result }
+        ensures ends_at { WalkEndsAt S.KeySpace E.keyed self.now slots.now key result }
     {
         let count = slots.len();
         if count == 0 {
@@ -57,8 +55,8 @@ impl<S: NumberedKeySpace, E: Keyed<S::Key>> KeyedList<'_, S, E> {
     /// The position of the first entry whose key means what `key` means, or none, where the slots are an index of the
     /// entries. Whatever they hold, a position that is answered has such a key.
     pub fn lookup(&self, slots: &[Slot], key: S::Key) -> Option<usize>
-        ensures only_meeting { OnlyMeeting (meaning_of (S.means self.now.space.now) E.keyed) self.now.entries.now (S.means self.now.space.now key) result }
-        ensures first_position { IndexOf (meaning_of (S.means self.now.space.now) E.keyed) S.numberof self.now.entries.now (length self.now.entries.now) slots.now → FirstOrNone (meaning_of (S.means self.now.space.now) E.keyed) self.now.entries.now (S.means self.now.space.now key) result }
+        ensures only_meeting { SomeOfKey S.KeySpace E.keyed self.now key result }
+        ensures first_position { IsIndex S.KeySpace E.keyed self.now slots.now → FirstOfKey S.KeySpace E.keyed self.now key result }
     {
         match self.seek(slots, key) {
             Spot::Found(position) => Some(position),
@@ -68,10 +66,10 @@ impl<S: NumberedKeySpace, E: Keyed<S::Key>> KeyedList<'_, S, E> {
 
     /// Enters the entry at `position`, which has this key, where those before it are entered.
     fn enter(&self, slots: &mut [Slot], position: usize, key: S::Key)
-        requires index { IndexOf (meaning_of (S.means self.now.space.now) E.keyed) S.numberof self.now.entries.now position slots.old }
-        requires its_key { Meets (meaning_of (S.means self.now.space.now) E.keyed) self.now.entries.now position (S.means self.now.space.now key) }
+        requires index { IsIndexOf S.KeySpace E.keyed self.now position slots.old }
+        requires its_key { HasKeyAt S.KeySpace E.keyed self.now position key }
         requires room { position < length slots.old }
-        ensures one_more { IndexOf (meaning_of (S.means self.now.space.now) E.keyed) S.numberof self.now.entries.now (position + 1) slots.new }
+        ensures one_more { IsIndexOf S.KeySpace E.keyed self.now (position + 1) slots.new }
     {
         match self.seek(slots, key) {
             Spot::Found(_) => {}
@@ -85,7 +83,7 @@ impl<S: NumberedKeySpace, E: Keyed<S::Key>> KeyedList<'_, S, E> {
     pub fn build(&self, slots: &mut [Slot]) -> Result<(), TooFewSlots>
         ensures refused_exactly { is_ok result ≡ nat_le (length self.now.entries.now) (length slots.old) }
         ensures refused_without_change { is_ok result ≡ false → slots.new ≡ slots.old }
-        ensures indexed { is_ok result ≡ true → IndexOf (meaning_of (S.means self.now.space.now) E.keyed) S.numberof self.now.entries.now (length self.now.entries.now) slots.new }
+        ensures indexed { is_ok result ≡ true → IsIndex S.KeySpace E.keyed self.now slots.new }
     {
         if slots.len() < self.entries.len() {
             return Err(TooFewSlots);
@@ -100,10 +98,10 @@ impl<S: NumberedKeySpace, E: Keyed<S::Key>> KeyedList<'_, S, E> {
     /// The position of the first entry whose key means what `key` means, or none, by an index that is built for it. The
     /// slots are an index of the entries afterwards, or as they were where they are too few.
     pub fn find(&self, slots: &mut [Slot], key: S::Key) -> Result<Option<usize>, TooFewSlots>
-        ensures first_position { IfOk result (FirstOrNone (meaning_of (S.means self.now.space.now) E.keyed) self.now.entries.now (S.means self.now.space.now key)) }
+        ensures first_position { IfOk result (FirstOfKey S.KeySpace E.keyed self.now key) }
         ensures refused_exactly { is_ok result ≡ nat_le (length self.now.entries.now) (length slots.old) }
         ensures refused_without_change { is_ok result ≡ false → slots.new ≡ slots.old }
-        ensures indexed { is_ok result ≡ true → IndexOf (meaning_of (S.means self.now.space.now) E.keyed) S.numberof self.now.entries.now (length self.now.entries.now) slots.new }
+        ensures indexed { is_ok result ≡ true → IsIndex S.KeySpace E.keyed self.now slots.new }
     {
         self.build(slots)?;
         Ok(self.lookup(slots, key))
