@@ -124,6 +124,7 @@ impl<'a, S: NumberedKeySpace, V: Copy> OrderedMap<'a, S, V> {
                 self.append(Entry { key, value }, number, at);
                 Ok(None)
             }
+            // Two arms, since the proof loses which of the two it was where they are one.
             Spot::Free { .. } => Err(MapFull),
             Spot::Full => Err(MapFull),
         }
