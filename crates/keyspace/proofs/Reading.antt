@@ -10,7 +10,3 @@ one_entry xs p a b x y = x.reads ∙ get_or_default xs p a b x.within ∙ sym y.
 -- it has one meaning
 pub one_meaning : {E V : Type 0} (means : E → V) (xs : List E) (p : ℕ) (v w : V) → Meets means xs p v → Meets means xs p w → v ≡ w
 one_meaning means xs p v w a b = sym a.same ∙ ap means (one_entry xs p a.entry b.entry a.at b.at) ∙ b.same
-
--- where the key is read from the entry
-pub meets_by_key : {E K V : Type 0} (keyed : E → K) (means : K → V) (xs : List E) (p : ℕ) (x : E) (k : K) → At xs p x → k ≡ keyed x → Meets (λ e. means (keyed e)) xs p (means k)
-meets_by_key keyed means xs p x k a e = record { entry = x; at = a; same = ap means (sym e) }

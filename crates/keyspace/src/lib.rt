@@ -1,4 +1,4 @@
-//! Key spaces and the index over them. docs/KEYSPACES.md describes them.
+//! Key spaces and the index over them. docs/VALUES.md has the rules, under "Key spaces and the index".
 
 #![tactic(auto)]
 

@@ -8,6 +8,7 @@ use refusal::Refusal;
 const MOST: usize = 64;
 
 /// A name of 1 to 64 bytes.
+// An array and how many of its bytes are the name's: names are copied, and this crate takes no memory from the heap.
 #[derive(Clone, Copy)]
 pub struct Name {
     bytes: [u8; MOST],

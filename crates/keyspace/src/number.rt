@@ -22,6 +22,7 @@ fn turn(h: u32) -> u32
 }
 
 /// The number of an id, and the end of that of a name.
+#[tactic(auto, unfolding(crate::specs::Numbers::spread))]
 pub fn scatter(h: u32) -> u32
     ensures { result ≡ spread h }
 {
@@ -36,12 +37,9 @@ fn mix(h: u32, byte: u8) -> u32
 }
 
 /// The number of a name.
+#[tactic(auto, unfolding(crate::specs::Numbers::name_number))]
 pub fn number_of_name(bytes: &[u8]) -> u32
     ensures { result ≡ name_number bytes.now }
 {
-    let mut h = FNV_START;
-    for b in bytes {
-        h = mix(h, *b);
-    }
-    scatter(h)
+    scatter(bytes.iter().fold(FNV_START, |h, byte| mix(h, *byte)))
 }

@@ -1,11 +1,14 @@
 //! The memory of an index, and what a walk over it finds.
 
-/// A place of an index: empty, or the number of a key and the position of its first entry.
+/// The number of a key, and the position of its first entry.
 #[derive(Clone, Copy)]
-pub enum Slot {
-    Empty,
-    Taken { number: u32, position: usize },
+pub struct Taken {
+    pub number: u32,
+    pub position: usize,
 }
+
+/// A place of an index: empty, or taken by a key.
+pub type Slot = Option<Taken>;
 
 /// Where a walk for a key ends.
 #[derive(Clone, Copy)]

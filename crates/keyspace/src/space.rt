@@ -1,6 +1,6 @@
 //! What a key means, and the number that a meaning has.
 
-ghost use Rattle.std.specs.Prelude.{◌≡◌, ℕ, true};
+ghost use Rattle.std.specs.Prelude.{◌≡◌, ℕ, ◌↔◌, IsTrue};
 
 /// A kind of key. Each key means a value, and two keys are the same exactly if their values are equal.
 pub trait KeySpace {
@@ -16,15 +16,14 @@ pub trait KeySpace {
 
     /// Says whether two keys mean the same.
     fn same(&self, a: Self::Key, b: Self::Key) -> bool
-        ensures only_same { result ≡ true → means self.now a ≡ means self.now b }
-        ensures every_same { means self.now a ≡ means self.now b → result ≡ true };
+        ensures same_meaning { IsTrue result ↔ (means self.now a ≡ means self.now b) };
 }
 
 /// A kind of key whose meanings have numbers: keys that mean the same have one number.
 pub trait NumberedKeySpace: KeySpace {
     /// The number of what the key means.
     fn number(&self, key: Self::Key) -> u32
-        ensures of_the_meaning { result ≡ Self.KeySpace.numberof (Self.KeySpace.means self.now key) };
+        ensures of_the_meaning { result ≡ Self.numberof (Self.means self.now key) };
 }
 
 /// What has a key: an entry of a list that is looked up in.

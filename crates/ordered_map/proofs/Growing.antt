@@ -1,23 +1,16 @@
 -- An index of distinct keys where an entry is replaced or added. Assumes nothing.
-use Rattle.std.proofs.Common.{◌≡◌, ℕ, zero, suc, ◌+◌, ◌%◌, ◌<◌, ◌≤◌, List, [], ◌∷◌, ◌++◌, length, get_or, take, set, sym, refl, ap, ◌∙◌, subst, ⊎_elim, arith}
+use Rattle.std.proofs.Common.{◌≡◌, ℕ, ◌+◌, ◌%◌, ◌<◌, ◌≤◌, List, [], ◌∷◌, ◌++◌, Some, Option, length, get_or, take, set, sym, refl, ap, ◌∙◌, subst, ⊎_elim, arith}
 use Rattle.std.proofs.lemmas.List.{get_or-set_same, get_or-set_other, length-set, set-set, set-get_or, length_push, get_or_append_left, get_or_push, length-take-le, get_or-take}
 use Rattle.std.proofs.lemmas.Bool.{cases_lt, cases_eq}
 use Rattle.keyspace.specs.Positions.{At, Meets, Absent}
 use Rattle.keyspace.specs.Slots.{IndexOf, slot_at, walked}
 use Rattle.keyspace.specs.Spots.{Passed, IsFree}
-use Rattle.ordered_map.specs.Maps.{Distinct, Mapped}
-use Rattle.keyspace.specs.declared.slot.Slot.{Slot}
-use Rattle.keyspace.specs.declared.slot.Slot.TheVariants.{Taken}
+use Rattle.ordered_map.specs.Mapped.{Distinct, Mapped}
+use Rattle.keyspace.specs.declared.slot.Taken.{Taken}
 use Rattle.keyspace.proofs.Reading.{one_entry}
 use Rattle.keyspace.proofs.Taking.{no_room, not_empty}
 use Rattle.keyspace.proofs.Walks.{none_by_free}
 use Rattle.keyspace.proofs.Steps.{carried, written_in}
-
-pub take_set_in : {E : Type 0} (n : ℕ) (xs : List E) (i : ℕ) (y : E) → take n (set xs i y) ≡ set (take n xs) i y
-take_set_in zero xs i y = refl
-take_set_in (suc n) [] i y = refl
-take_set_in (suc n) (x ∷ xs) zero y = refl
-take_set_in (suc n) (x ∷ xs) (suc i) y = ap (λ zs. x ∷ zs) (take_set_in n xs i y)
 
 -- what stands in the front of a list stands in the list
 pub at_in_all : {E : Type 0} (n : ℕ) (xs : List E) (p : ℕ) (e : E) → n ≤ length xs → At (take n xs) p e → At xs p e
@@ -43,7 +36,7 @@ module _ {E V : Type 0} (means : E → V) where
       let whole : set (set xs q y) q x ≡ xs = set-set xs q y x ∙ ap (set xs q) a.reads ∙ set-get_or xs q x in
       subst (λ zs. Meets means zs p v) whole (set_meets (set xs q y) q y x here (sym same) p v m)
 
-  pub mapped_set : (numberof : V → ℕ) (xs : List E) (slots : List Slot) (q : ℕ) (x y : E) → At xs q x → means y ≡ means x → Mapped means numberof xs slots → Mapped means numberof (set xs q y) slots
+  pub mapped_set : (numberof : V → ℕ) (xs : List E) (slots : List (Option Taken)) (q : ℕ) (x y : E) → At xs q x → means y ≡ means x → Mapped means numberof xs slots → Mapped means numberof (set xs q y) slots
   mapped_set numberof xs slots q x y a same m =
       record {
         distinct = λ p r v mp mr. m.distinct p r v (set_back xs q x y a same p v mp) (set_back xs q x y a same r v mr);
@@ -77,7 +70,7 @@ module _ {E V : Type 0} (means : E → V) where
         (λ ep. ⊎_elim (λ bq. absurd (clash q p bq ep mq mp)) (λ eq. (push_last p v ep mp).0 ∙ sym (push_last q v eq mq).0) (cases_lt q n))
         (cases_lt p n)
 
-    module _ (numberof : V → ℕ) (slots : List Slot) (m : Mapped means numberof xs slots) (at number : ℕ) (f : IsFree means numberof xs slots (means y) at number) where
+    module _ (numberof : V → ℕ) (slots : List (Option Taken)) (m : Mapped means numberof xs slots) (at number : ℕ) (f : IsFree means numberof xs slots (means y) at number) where
       pub absent_by_free : Absent means xs (means y)
       absent_by_free q mq = none_by_free means numberof xs slots (means y) (length xs) m.index at number f q mq.at.within mq
 
@@ -92,17 +85,17 @@ module _ {E V : Type 0} (means : E → V) where
             empty = f.empty;
             passed = λ j lt.
                 let o = f.passed j lt in
-                let below : o.entry < length xs = m.index.points (walked (numberof (means y) % length slots) j (length slots)) o.number o.entry o.slot in
-                record { number = o.number; entry = o.entry; slot = o.slot; apart = λ e k. o.apart e (push_back o.entry (means y) below k) };
+                let below : o.taken.position < length xs = m.index.points (walked (numberof (means y) % length slots) j (length slots)) o.taken o.slot in
+                record { taken = o.taken; slot = o.slot; apart = λ e k. o.apart e (push_back o.taken.position (means y) below k) };
           }
 
-      pub mapped_push : Mapped means numberof (xs ++ y ∷ []) (set slots at (Taken number (length xs)))
+      pub mapped_push : Mapped means numberof (xs ++ y ∷ []) (set slots at (Some (record { number = number; position = length xs })))
       mapped_push =
           let longer : length (xs ++ y ∷ []) ≡ length xs + 1 = length_push xs y in
           let within : length xs < length (xs ++ y ∷ []) = omega arith in
           record {
             distinct = distinct_push absent_by_free m.distinct;
-            index = subst (λ n. IndexOf means numberof (xs ++ y ∷ []) n (set slots at (Taken number (length xs)))) (sym longer)
+            index = subst (λ n. IndexOf means numberof (xs ++ y ∷ []) n (set slots at (Some (record { number = number; position = length xs })))) (sym longer)
                 (written_in means numberof (xs ++ y ∷ []) (length xs) slots
                 (carried means means numberof xs (xs ++ y ∷ []) (length xs) slots (omega arith) (λ p v lt. push_meets p v) push_back m.index)
                 (means y) (record { entry = y; at = record { within = within; reads = sym (get_or_push xs y y (length xs) refl) }; same = refl })
@@ -110,10 +103,10 @@ module _ {E V : Type 0} (means : E → V) where
           }
 
   -- where each slot is taken by another key, there are as many keys as slots
-  pub full_by_full : (numberof : V → ℕ) (xs : List E) (slots : List Slot) (v : V) → Mapped means numberof xs slots → Passed means numberof xs slots v (length slots) → length slots ≤ length xs
+  pub full_by_full : (numberof : V → ℕ) (xs : List E) (slots : List (Option Taken)) (v : V) → Mapped means numberof xs slots → Passed means numberof xs slots v (length slots) → length slots ≤ length xs
   full_by_full numberof xs slots v m passed =
       ⊎_elim
       (λ lt. absurd (no_room slots (numberof v) (length xs) m.index.room lt
-      (λ i near z. let o = passed i near in not_empty (slot_at (length slots) slots (numberof v) i) o.number o.entry o.slot z)))
+      (λ i near z. let o = passed i near in not_empty (slot_at (length slots) slots (numberof v) i) o.taken o.slot z)))
       (λ le. le)
       (cases_lt (length xs) (length slots))

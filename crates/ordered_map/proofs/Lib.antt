@@ -3,3 +3,4 @@ pub mod Growing
 pub mod Inserting
 pub mod Orders
 pub mod Laws
+pub mod Lookups

@@ -1,29 +1,18 @@
--- Lists of entries compared entry by entry. Assumes nothing.
-use Rattle.std.proofs.Common.{◌≡◌, ℕ, zero, suc, ◌+◌, ◌<◌, List, [], ◌∷◌, ◌++◌, map, length, get_or, take, sym, refl, ap, ◌∙◌, arith}
-use Rattle.std.proofs.lemmas.List.{length-map, get_or-map, map_more}
-use Rattle.keyspace.specs.Positions.{At, Meets}
-use Rattle.keyspace.proofs.Reading.{one_meaning}
-use Rattle.ordered_map.specs.Content.{Within}
+-- Lists compared by what their elements mean. Assumes nothing.
+use Rattle.std.proofs.Common.{◌≡◌, ℕ, zero, suc, ◌<◌, Bool, true, false, List, [], ◌∷◌, map, length, get_or, sym, refl, ap, ◌∙◌, subst, arith}
+use Rattle.std.specs.Bool.{MatchBool, Decides}
+use Rattle.std.specs.List.{AllWithin, HoldsAt, zip}
+use Rattle.std.proofs.lemmas.List.{length-map, get_or-map}
+use Rattle.keyspace.specs.Positions.{At}
+use Rattle.ordered_map.specs.Content.{Holds, Within}
 
 module _ {E U : Type 0} (f : E → U) (xs ys : List E) where
   pub same_length : map f xs ≡ map f ys → length xs ≡ length ys
   same_length e = sym (length-map xs f) ∙ ap length e ∙ length-map ys f
 
-  pub same_at : map f xs ≡ map f ys → (i : ℕ) (x y : E) → At xs i x → At ys i y → f x ≡ f y
+  same_at : map f xs ≡ map f ys → (i : ℕ) (x y : E) → At xs i x → At ys i y → f x ≡ f y
   same_at e i x y a b =
       ap f a.reads ∙ sym (get_or-map f xs i x (f x) a.within) ∙ ap (λ us. get_or us i (f x)) e ∙ get_or-map f ys i y (f x) b.within ∙ sym (ap f b.reads)
-
-  pub same_more : (i : ℕ) (x y : E) → At xs i x → At ys i y → f x ≡ f y → map f (take i xs) ≡ map f (take i ys) → map f (take (i + 1) xs) ≡ map f (take (i + 1) ys)
-  same_more i x y a b same before =
-      map_more f xs i x a.within ∙ ap (λ us. us ++ f (get_or xs i x) ∷ []) before
-      ∙ ap (λ u. map f (take i ys) ++ u ∷ []) (ap f (sym a.reads) ∙ same ∙ ap f b.reads) ∙ sym (map_more f ys i y b.within)
-
--- what stands at a position means one thing
-pub meets_itself : {E U : Type 0} (f : E → U) (xs : List E) (p : ℕ) (x : E) → At xs p x → Meets f xs p (f x)
-meets_itself f xs p x a = record { entry = x; at = a; same = refl }
-
-pub means_one : {E U : Type 0} (f : E → U) (xs : List E) (p : ℕ) (x : E) (u : U) → At xs p x → Meets f xs p u → f x ≡ u
-means_one f xs p x u a m = one_meaning f xs p (f x) u (meets_itself f xs p x a) m
 
 -- at each position of a list there stands something
 some_at : {E : Type 0} (xs : List E) (p : ℕ) → p < length xs → (x : E) × At xs p x
@@ -36,3 +25,42 @@ pub equal_within : {E U : Type 0} (f : E → U) (xs ys : List E) → map f xs �
 equal_within f xs ys e u h =
     let y = some_at ys h.0 (omega (arith, same_length f xs ys e, h.1.at.within)) in
     (h.0, record { entry = y.0; at = y.1; same = sym (same_at f xs ys e h.0 h.1.entry y.0 h.1.at y.1) ∙ h.1.same })
+
+-- where a test of each element says whether the other list holds what it means
+pub within_decided : {E U : Type 0} (f : E → U) (xs ys : List E) (r : Bool)
+    → MatchBool r (AllWithin (λ x. Holds f ys (f x)) xs 0 (length xs)) ((k : ℕ) × (k < length xs) × HoldsAt (λ x. Holds f ys (f x) → ⊥) xs k) → Decides r (Within f xs ys)
+within_decided f xs ys true all = (
+  λ _ u h.
+      let x = h.1.entry in
+      let there : Holds f ys (f x) = subst (λ y. Holds f ys (f y)) (sym h.1.at.reads) (all h.0 x (omega arith) h.1.at.within) in
+      subst (λ v. Holds f ys v) h.1.same there,
+  λ _. refl,
+)
+within_decided f xs ys false some = (
+  λ e. cc,
+  λ w.
+      let x = some_at xs some.0 some.1 in
+      absurd (some.2 x.0 (w (f (get_or xs some.0 x.0)) (some.0, record { entry = x.0; at = x.1; same = ap f x.1.reads }))),
+)
+
+-- where a test of each pair says whether its two mean the same
+all_equal : {E U : Type 0} (f : E → U) (xs ys : List E) → length xs ≡ length ys → AllWithin (λ p. f p.0 ≡ f p.1) (zip xs ys) 0 (length (zip xs ys)) → map f xs ≡ map f ys
+all_equal f [] [] e all = refl
+all_equal f [] (y ∷ ys) e all = absurd (omega arith)
+all_equal f (x ∷ xs) [] e all = absurd (omega arith)
+all_equal f (x ∷ xs) (y ∷ ys) e all =
+    let head : f x ≡ f y = all 0 (x, y) (omega arith) (omega arith) in
+    let tail : map f xs ≡ map f ys = all_equal f xs ys (omega arith) (λ k d lo hi. all (suc k) d (omega arith) (omega arith)) in
+    cc
+
+none_apart : {E U : Type 0} (f : E → U) (xs ys : List E) → map f xs ≡ map f ys → (k : ℕ) → k < length (zip xs ys) → HoldsAt (λ p. f p.0 ≡ f p.1 → ⊥) (zip xs ys) k → ⊥
+none_apart f [] ys e k lt h = absurd (omega arith)
+none_apart f (x ∷ xs) [] e k lt h = absurd (omega arith)
+none_apart f (x ∷ xs) (y ∷ ys) e zero lt h = let same : f x ≡ f y = cc in h (x, y) same
+none_apart f (x ∷ xs) (y ∷ ys) e (suc k) lt h = let rest : map f xs ≡ map f ys = cc in none_apart f xs ys rest k (omega arith) h
+
+pub equal_decided : {E U : Type 0} (f : E → U) (xs ys : List E) (r : Bool) → length xs ≡ length ys
+    → MatchBool r (AllWithin (λ p. f p.0 ≡ f p.1) (zip xs ys) 0 (length (zip xs ys))) ((k : ℕ) × (k < length (zip xs ys)) × HoldsAt (λ p. f p.0 ≡ f p.1 → ⊥) (zip xs ys) k)
+    → Decides r (map f xs ≡ map f ys)
+equal_decided f xs ys true e all = (λ _. all_equal f xs ys e all, λ _. refl)
+equal_decided f xs ys false e some = (λ z. cc, λ same. absurd (none_apart f xs ys same some.0 some.1 some.2))

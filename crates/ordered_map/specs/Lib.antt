@@ -1,3 +1,4 @@
 pub mod Content
+pub mod Mapped
 pub mod Maps
 pub mod Insertions

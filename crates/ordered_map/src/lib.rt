@@ -1,4 +1,5 @@
-//! The ordered map over a key space, and what two lists of entries have in common. docs/KEYSPACES.md describes them.
+//! The ordered map over a key space, and what two lists of entries have in common. docs/VALUES.md has the rules, under
+//! "Maps".
 
 #![tactic(auto)]
 

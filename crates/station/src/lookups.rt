@@ -2,8 +2,7 @@
 
 ghost use Rattle.std.specs.Prelude.{◌≤◌, IfOk, vec_len};
 
-use keyspace::fields::{FieldIds, FieldNames, position_of_id, position_of_name};
-use keyspace::name::Name;
+use keyspace::fields::position_of;
 use keyspace::slot::Slot;
 use keyspace::space::{KeySpace, NumberedKeySpace};
 use ordered_map::entry::Entry;
@@ -16,7 +15,7 @@ use std::alloc::{AllocError, Global};
 fn slots_for(heap: Global, keys: usize) -> Result<Vec<Slot>, AllocError>
     ensures enough { IfOk result (λ v. keys ≤ vec_len v) }
 {
-    vec![in heap; Slot::Empty; keys.saturating_mul(2)]
+    vec![in heap; None; keys.saturating_mul(2)]
 }
 
 // How many of the keys are different.
@@ -38,7 +37,7 @@ where
     let mut slots = slots_for(heap, keys.len())?;
     let mut map = OrderedMap::new(space, &mut entries, &mut slots);
     for key in keys {
-        let _ = map.insert(space, *key, ());
+        let _ = map.insert(*key, ());
     }
     Ok(map.len())
 }
@@ -67,34 +66,25 @@ fn say_different(
     print::number(out, different as u64)
 }
 
-pub(crate) fn say_ids(
+// Where a key stands among others of its key space, which `what` names for people.
+pub(crate) fn say_sought<S: NumberedKeySpace>(
     heap: Global,
-    sought: &Sought<FieldId>,
+    space: &S,
+    what: &str,
+    sought: &Sought<S::Key>,
     out: &mut String,
-) -> Result<(), AllocError> {
+) -> Result<(), AllocError>
+where
+    S::Key: Clone,
+{
     let among = sought.among.as_slice();
     let mut slots = slots_for(heap, among.len())?;
-    let Ok(place) = position_of_id(among, &mut slots, sought.key) else {
+    let Ok(place) = position_of(space, among, &mut slots, sought.key) else {
         unreachable!()
     };
     say_position(out, place)?;
-    let different = count_different(heap, &FieldIds, among)?;
-    say_different(out, "ids: ", among.len(), different)
-}
-
-pub(crate) fn say_names(
-    heap: Global,
-    sought: &Sought<Name>,
-    out: &mut String,
-) -> Result<(), AllocError> {
-    let among = sought.among.as_slice();
-    let mut slots = slots_for(heap, among.len())?;
-    let Ok(place) = position_of_name(among, &mut slots, sought.key) else {
-        unreachable!()
-    };
-    say_position(out, place)?;
-    let different = count_different(heap, &FieldNames, among)?;
-    say_different(out, "names: ", among.len(), different)
+    let different = count_different(heap, space, among)?;
+    say_different(out, what, among.len(), different)
 }
 
 pub(crate) fn say_no_name(out: &mut String) -> Result<(), AllocError> {

@@ -1,33 +1,33 @@
 //! What an ordered map does.
 
-ghost use Rattle.std.specs.Prelude.{◌≡◌, ◌+◌, ◌<◌, min, true, false, [], length, is_ok, ◌==◌, slice_set};
+ghost use Rattle.std.specs.Prelude.{◌≡◌, ◌+◌, ◌<◌, min, true, false, [], length, is_ok, ◌==◌, slice_set, Some};
 ghost use Rattle.ordered_map.specs.Content.{key_of};
 ghost use Rattle.ordered_map.specs.Insertions.{LatestOfAny, OneMore, OrderOfAny};
-ghost use Rattle.ordered_map.specs.Maps.{Inserted, IsMap, Unchanged, ValueOrNone, capacity_of, entries_of};
+ghost use Rattle.ordered_map.specs.Maps.{Inserted, Unchanged, ValueOrNone, capacity_of, entries_of, means_of};
 ghost use Rattle.keyspace.specs.Positions.{At};
-ghost use Rattle.keyspace.specs.Spots.{EndsAt};
-ghost use Rattle.keyspace.specs.declared.slot.Slot.TheVariants.{Taken};
+ghost use Rattle.keyspace.specs.Spots.{EndsAt, IsFree};
 
 use crate::entry::Entry;
 use crate::map::{MapFull, OrderedMap};
-use keyspace::index::{build, lookup, seek};
-use keyspace::slot::{Slot, Spot};
+use keyspace::index::KeyedList;
+use keyspace::slot::{Slot, Spot, Taken};
 use keyspace::space::{KeySpace, Keyed, NumberedKeySpace};
+use std::mem;
 
-impl<'a, K: Copy, V: Copy> OrderedMap<'a, K, V> {
-    /// A map of no keys over this memory, whatever it holds. An index of no entries is never refused.
-    pub fn new<S: NumberedKeySpace<Key = K>>(
-        space: &S,
-        entries: &'a mut [Entry<K, V>],
+impl<'a, S: NumberedKeySpace, V: Copy> OrderedMap<'a, S, V> {
+    /// A map of no keys over this memory, whatever it holds.
+    pub fn new(
+        space: &'a S,
+        entries: &'a mut [Entry<S::Key, V>],
         slots: &'a mut [Slot],
-    ) -> OrderedMap<'a, K, V>
+    ) -> OrderedMap<'a, S, V>
+        ensures its_space { means_of result ≡ S.means space.now }
         ensures no_keys { entries_of result ≡ [] }
         ensures room { capacity_of result ≡ min (length entries.old) (length slots.old) }
-        ensures is_map { IsMap (S.KeySpace.means space.now) S.KeySpace.numberof result }
     {
-        let none: [Entry<K, V>; 0] = [];
-        let _ = build(space, &none, slots);
+        slots.fill(None);
         OrderedMap {
+            space,
             entries,
             slots,
             len: 0,
@@ -49,7 +49,7 @@ impl<'a, K: Copy, V: Copy> OrderedMap<'a, K, V> {
     }
 
     /// Its entries, in the order of the first insertion of their keys.
-    pub fn entries(&self) -> &[Entry<K, V>]
+    pub fn entries(&self) -> &[Entry<S::Key, V>]
         ensures in_order { result.now ≡ entries_of self.now }
     {
         let len = self.len;
@@ -63,74 +63,80 @@ impl<'a, K: Copy, V: Copy> OrderedMap<'a, K, V> {
         self.entries.len().min(self.slots.len())
     }
 
-    /// Where the key is, or where there is room for it.
-    fn spot<S: NumberedKeySpace<Key = K>>(&self, space: &S, key: K) -> Spot
-        ensures ends_at { EndsAt (key_of (S.KeySpace.means space.now)) S.KeySpace.numberof (entries_of self.now) self.now.slots.now (S.KeySpace.means space.now key) result }
+    /// Its entries, with the key space of their keys.
+    fn list(&self) -> KeyedList<'_, S, Entry<S::Key, V>>
+        ensures space { result.space.now ≡ self.now.space.now }
+        ensures in_order { result.entries.now ≡ entries_of self.now }
     {
-        seek(space, self.entries(), self.slots, key)
+        KeyedList {
+            space: self.space,
+            entries: self.entries(),
+        }
+    }
+
+    /// Where the key is, or where there is room for it.
+    fn spot(&self, key: S::Key) -> Spot
+        ensures ends_at { EndsAt (key_of (means_of self.now)) S.numberof (entries_of self.now) self.now.slots.now (means_of self.now key) result }
+    {
+        self.list().seek(self.slots, key)
     }
 
     /// Puts another value at `place`, and answers the one that was there.
     fn replace(&mut self, place: usize, value: V) -> V
         requires there { place < self.old.len }
-        ensures written { (e : Entry K V) → At self.old.entries.now place e → (result ≡ e.value) × (self.new.entries.now ≡ slice_set self.old.entries.now place (record { key = e.key; value = value })) }
+        ensures written { (e : Entry S.Key V) → At self.old.entries.now place e → (result ≡ e.value) × (self.new.entries.now ≡ slice_set self.old.entries.now place (record { key = e.key; value = value })) }
         ensures slots { self.new.slots.now ≡ self.old.slots.now }
         ensures len { self.new.len ≡ self.old.len }
+        ensures space { self.new.space ≡ self.old.space }
     {
-        let old = self.entries[place].value;
-        self.entries[place].value = value;
-        old
+        let entries = &mut *self.entries;
+        mem::replace(&mut entries[place].value, value)
     }
 
     /// Adds an entry at the end, and takes the slot `at` for it.
-    fn append(&mut self, entry: Entry<K, V>, number: u32, at: usize)
+    fn append(&mut self, entry: Entry<S::Key, V>, number: u32, at: usize)
         requires room { self.old.len < length self.old.entries.now }
-        requires free { at < length self.old.slots.now }
+        requires free { IsFree (key_of (means_of self.old)) S.numberof (entries_of self.old) self.old.slots.now (means_of self.old entry.key) at number }
         ensures entries { self.new.entries.now ≡ slice_set self.old.entries.now self.old.len entry }
-        ensures slots { self.new.slots.now ≡ slice_set self.old.slots.now at (Taken number self.old.len) }
+        ensures slots { self.new.slots.now ≡ slice_set self.old.slots.now at (Some (record { number = number; position = self.old.len })) }
         ensures len { self.new.len ≡ self.old.len + 1 }
+        ensures space { self.new.space ≡ self.old.space }
     {
         let position = self.len;
         self.entries[position] = entry;
-        self.slots[at] = Slot::Taken { number, position };
+        self.slots[at] = Some(Taken { number, position });
         self.len = position + 1;
     }
 
     /// Gives `key` the value, and answers the one that it had, or none where it is new. A key that is there keeps its
     /// place and stays as it was stored. A new key that finds no room is refused, and nothing changes.
-    pub fn insert<S: NumberedKeySpace<Key = K>>(
-        &mut self,
-        space: &S,
-        key: K,
-        value: V,
-    ) -> Result<Option<V>, MapFull>
-        ensures inserted { IsMap (S.KeySpace.means space.now) S.KeySpace.numberof self.old → Inserted (S.KeySpace.means space.now) (capacity_of self.old) (entries_of self.old) (record { key = key; value = value }) (entries_of self.new) result }
-        ensures still_a_map { IsMap (S.KeySpace.means space.now) S.KeySpace.numberof self.old → IsMap (S.KeySpace.means space.now) S.KeySpace.numberof self.new }
-        ensures one_insertion_more { IsMap (S.KeySpace.means space.now) S.KeySpace.numberof self.old → is_ok result ≡ true → OneMore (S.KeySpace.means space.now) (entries_of self.old) (record { key = key; value = value }) (entries_of self.new) }
-        ensures in_order_of_first_insertion { OrderOfAny (S.KeySpace.means space.now) (entries_of self.new) }
+    pub fn insert(&mut self, key: S::Key, value: V) -> Result<Option<V>, MapFull>
+        ensures inserted { Inserted (means_of self.old) (capacity_of self.old) (entries_of self.old) (record { key = key; value = value }) (entries_of self.new) result }
+        ensures one_insertion_more { is_ok result ≡ true → OneMore (means_of self.old) (entries_of self.old) (record { key = key; value = value }) (entries_of self.new) }
+        ensures in_order_of_first_insertion { (means : S.Key → S.Value) → OrderOfAny means (entries_of self.new) }
         ensures refused_without_change { is_ok result ≡ false → Unchanged self.old self.new }
         ensures same_room { capacity_of self.new ≡ capacity_of self.old }
+        ensures same_space { means_of self.new ≡ means_of self.old }
     {
-        match self.spot(space, key) {
+        match self.spot(key) {
             Spot::Found(place) => Ok(Some(self.replace(place, value))),
             Spot::Free { at, number } if self.len < self.capacity() => {
                 self.append(Entry { key, value }, number, at);
                 Ok(None)
             }
+            // Two arms, since the proof loses which of the two it was where they are one.
             Spot::Free { .. } => Err(MapFull),
             Spot::Full => Err(MapFull),
         }
     }
 
     /// The value of the key, or none where the map does not have it.
-    pub fn get<S: NumberedKeySpace<Key = K>>(&self, space: &S, key: K) -> Option<V>
-        ensures value { IsMap (S.KeySpace.means space.now) S.KeySpace.numberof self.now → ValueOrNone (S.KeySpace.means space.now) (entries_of self.now) (S.KeySpace.means space.now key) result }
-        ensures latest_value { IsMap (S.KeySpace.means space.now) S.KeySpace.numberof self.now → LatestOfAny (S.KeySpace.means space.now) (entries_of self.now) (S.KeySpace.means space.now key) result }
+    pub fn get(&self, key: S::Key) -> Option<V>
+        ensures value { ValueOrNone (means_of self.now) (entries_of self.now) (means_of self.now key) result }
+        ensures latest_value { LatestOfAny (means_of self.now) (entries_of self.now) (means_of self.now key) result }
     {
-        let entries = self.entries();
-        match lookup(space, entries, self.slots, key) {
-            Some(place) => Some(entries[place].value),
-            None => None,
-        }
+        let list = self.list();
+        let place = list.lookup(self.slots, key)?;
+        Some(list.entries[place].value)
     }
 }

@@ -1,12 +1,14 @@
-use Rattle.keyspace.proofs.Answered.{first_field}
+use Rattle.std.proofs.Common.{◌≡◌, ℕ, List, Some, None, Ok, Option, option_map, sym, subst, rules}
+use Rattle.refusal.specs.declared.FieldPosition.{FieldPosition}
+use Rattle.keyspace.specs.Positions.{FirstOrNone}
+use Rattle.keyspace.specs.Fields.{FirstField}
 use Rattle.keyspace.proofs.fields.position_of.Goals as goal
 
-pub returns : goal.returns
-returns g c =
-    let found = c.in_ok-find.ensures in
-    record {
-      first_position = first_field _ _ _ _ c.as_position.result c.as_position.ensures.same_place found.first_position;
-      refused_exactly = found.refused_exactly;
-      refused_without_change = found.refused_without_change;
-      indexed = found.indexed;
-    }
+first_field : {E V : Type 0} (means : E → V) (xs : List E) (v : V) (place : Option ℕ) (r : Option FieldPosition) → r ≡ option_map (λ p. record { 0 = p }) place → FirstOrNone means xs v place → FirstField means xs v (Ok r)
+first_field means xs v (Some p) r e h = subst (λ (o : Option FieldPosition). FirstField means xs v (Ok o)) (sym e) h
+first_field means xs v None r e h = subst (λ (o : Option FieldPosition). FirstField means xs v (Ok o)) (sym e) h
+
+pub returns-clause-first_position : goal.returns-clause-first_position
+returns-clause-first_position g c =
+    let e : c.map.result ≡ option_map (λ p. record { 0 = p }) c.in_ok-find.field-0 = search rules in
+    first_field _ _ _ c.in_ok-find.field-0 c.map.result e c.in_ok-find.ensures.first_position

@@ -1,28 +1,32 @@
-use Rattle.std.proofs.Common.{length, get_or, None, sym, subst}
-use Rattle.ordered_map.specs.Content.{key_of}
-use Rattle.keyspace.specs.Positions.{Absent}
-use Rattle.keyspace.specs.Slots.{IndexOf}
-use Rattle.ordered_map.specs.Maps.{IsMap, Valued, entries_of}
-use Rattle.ordered_map.proofs.Laws.{found_value, latest}
+use Rattle.std.proofs.Common.{◌≡◌, None, sym, subst, rules}
+use Rattle.ordered_map.specs.Insertions.{LatestOfAny}
+use Rattle.ordered_map.specs.Maps.{ValueOrNone, means_of, entries_of}
+use Rattle.ordered_map.proofs.Lookups.{value_found, none_found}
+use Rattle.ordered_map.proofs.Laws.{latest}
 use Rattle.ordered_map.proofs.map.OrderedMap.get.Goals as goal
 
-pub returns-in-Some : goal.returns-in-Some
-returns-in-Some g c =
-    let means = g.S.KeySpace.means c.args.space.now in
-    let v = means c.args.key in
-    let e = c.index-entries-place.result in
-    let valued : Valued means (entries_of c.args.self.now) v (get_or c.entries-entries.result.now c.in-Some.place e).value =
-    subst (λ es. Valued means es v (get_or c.entries-entries.result.now c.in-Some.place e).value) c.entries-entries.ensures.in_order
-    (found_value means c.entries-entries.result.now v c.in-Some.place c.in-Some.ensures.only_meeting e) in
-    record { value = λ _. valued; latest_value = λ _ news a. latest means news _ a v _ valued }
+pub returns-in_err-place-clause-value : goal.returns-in_err-place-clause-value
+returns-in_err-place-clause-value g c =
+    let m = c.args.self.now in
+    let list = c.list-list.ensures in
+    let e : c.from_residual.result ≡ None = search rules in
+    subst (λ r. ValueOrNone (means_of m) (entries_of m) (means_of m c.args.key) r) (sym e) (none_found m c.args.key _ _ list.space list.in_order c.in_err-place.ensures.first_position)
 
-pub returns-in-None : goal.returns-in-None
-returns-in-None g c =
-    let means = g.S.KeySpace.means c.args.space.now in
-    let v = means c.args.key in
-    let slots = c.args.self.now.slots.now in
-    let same = c.entries-entries.ensures.in_order in
-    let none : IsMap means g.S.KeySpace.numberof c.args.self.now → Absent (key_of means) (entries_of c.args.self.now) v =
-    λ is. subst (λ es. Absent (key_of means) es v) same
-    (c.in-None.ensures.first_position (subst (λ es. IndexOf (key_of means) g.S.KeySpace.numberof es (length es) slots) (sym same) is.index)) in
-    record { value = none; latest_value = λ is news a. latest means news _ a v None (none is) }
+pub returns-in_err-place-clause-latest_value : goal.returns-in_err-place-clause-latest_value
+returns-in_err-place-clause-latest_value g c =
+    let m = c.args.self.now in
+    let list = c.list-list.ensures in
+    let e : c.from_residual.result ≡ None = search rules in
+    subst (λ r. LatestOfAny (means_of m) (entries_of m) (means_of m c.args.key) r) (sym e)
+    (λ news a. latest (means_of m) news _ a (means_of m c.args.key) None (none_found m c.args.key _ _ list.space list.in_order c.in_err-place.ensures.first_position))
+
+pub returns-clause-value : goal.returns-clause-value
+returns-clause-value g c =
+    let list = c.list-list.ensures in
+    value_found c.args.self.now c.args.key _ _ list.space list.in_order c.in_ok-place.place c.index-list-place.result c.in_ok-place.ensures.only_meeting
+
+pub returns-clause-latest_value : goal.returns-clause-latest_value
+returns-clause-latest_value g c = λ news a.
+    let m = c.args.self.now in
+    let list = c.list-list.ensures in
+    latest (means_of m) news _ a (means_of m c.args.key) _ (value_found m c.args.key _ _ list.space list.in_order c.in_ok-place.place c.index-list-place.result c.in_ok-place.ensures.only_meeting)
