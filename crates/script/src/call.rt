@@ -6,14 +6,13 @@ ghost use Rattle.script.specs.Lexing.{tokens as tokens_of, uncarried};
 ghost use Rattle.script.specs.Calls.{sort_name, verb_name, sort_of, opens_by, opening_of, opened, by_verb, call_of, Parses};
 ghost use Rattle.script.specs.Shapes.{Meets};
 
-use crate::items::{Items, read_bytes, read_items, read_kinds};
+use crate::items::{read_all, read_bytes};
 use crate::line::{Token, Tokens, trimmed};
-use carrier::Kind;
+use carrier::{Item, Kind};
 use spelling::bad::Bad;
 use spelling::names::{Named, pick};
 use spelling::numbers::size;
 use std::alloc::Global;
-use transfer::cells::Cell;
 
 /// A line as a call.
 #[derive(Drop)]
@@ -22,8 +21,8 @@ pub enum Call {
     Row,
     Room,
     Waiting,
-    Price(Cell, Vec<u8>),
-    ItemPut(Items),
+    Price(Item<Vec<u8>>),
+    ItemPut(Vec<Item<Vec<u8>>>),
     ItemTake(Vec<Kind>),
 }
 
@@ -121,14 +120,12 @@ fn read_opening(heap: Global, tokens: &mut Tokens) -> Result<Opening, Bad>
 fn read_price(heap: Global, tokens: &mut Tokens) -> Result<Call, Bad>
     ensures as_spelled { Parses result (by_verb Verb.Price (left tokens.old)) }
 {
-    let Items { cells, bytes } = read_items(heap, tokens)?;
-    if cells.is_empty() {
-        return Err(Bad::MissingArgument);
-    }
-    if cells.len() > 1 {
+    let mut items = read_all(heap, tokens)?;
+    let item = items.pop().ok_or(Bad::MissingArgument)?;
+    if !items.is_empty() {
         return Err(Bad::TooMuch);
     }
-    Ok(Call::Price(cells[0], bytes))
+    Ok(Call::Price(item))
 }
 
 /// What stands behind the verb.
@@ -150,8 +147,8 @@ fn read_call(heap: Global, verb: Verb, tokens: &mut Tokens) -> Result<Call, Bad>
             Ok(Call::Waiting)
         }
         Verb::Price => read_price(heap, tokens),
-        Verb::ItemPut => Ok(Call::ItemPut(read_items(heap, tokens)?)),
-        Verb::ItemTake => Ok(Call::ItemTake(read_kinds(heap, tokens)?)),
+        Verb::ItemPut => Ok(Call::ItemPut(read_all(heap, tokens)?)),
+        Verb::ItemTake => Ok(Call::ItemTake(read_all(heap, tokens)?)),
     }
 }
 
