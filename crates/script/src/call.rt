@@ -6,14 +6,13 @@ ghost use Rattle.script.specs.Lexing.{tokens as tokens_of, uncarried};
 ghost use Rattle.script.specs.Calls.{sort_name, verb_name, sort_of, opens_by, opening_of, opened, by_verb, call_of, Parses};
 ghost use Rattle.script.specs.Shapes.{Meets};
 
-use crate::items::{Items, read_bytes, read_items, read_kinds};
+use crate::items::{read_all, read_bytes};
 use crate::line::{Token, Tokens, trimmed};
-use carrier::Kind;
+use carrier::{Item, Kind};
 use spelling::bad::Bad;
 use spelling::names::{Named, pick};
 use spelling::numbers::size;
 use std::alloc::Global;
-use transfer::cells::Cell;
 
 /// A line as a call.
 #[derive(Drop)]
@@ -22,8 +21,8 @@ pub enum Call {
     Row,
     Room,
     Waiting,
-    Price(Cell, Vec<u8>),
-    ItemPut(Items),
+    Price(Item<Vec<u8>>),
+    ItemPut(Vec<Item<Vec<u8>>>),
     ItemTake(Vec<Kind>),
 }
 
@@ -99,11 +98,10 @@ impl Named for Verb {
 fn opening_of(heap: Global, sort: &[u8], value: &[u8]) -> Result<Opening, Bad>
     ensures as_spelled { Meets opened result (opens_by (sort_of sort.now) value.now) }
 {
-    match pick(sort, &SORTS) {
-        Some(Sort::Avro) => Ok(Opening::Avro(size(value)?)),
-        Some(Sort::Words) => Ok(Opening::Words(size(value)?)),
-        Some(Sort::AvroWritten) => Ok(Opening::AvroWritten(read_bytes(heap, value)?)),
-        None => Err(Bad::NotACarrier),
+    match pick(sort, &SORTS).ok_or(Bad::NotACarrier)? {
+        Sort::Avro => size(value).map(Opening::Avro),
+        Sort::Words => size(value).map(Opening::Words),
+        Sort::AvroWritten => read_bytes(heap, value).map(Opening::AvroWritten),
     }
 }
 
@@ -121,14 +119,12 @@ fn read_opening(tokens: &mut Tokens) -> Result<Opening, Bad>
 fn read_price(tokens: &mut Tokens) -> Result<Call, Bad>
     ensures as_spelled { Parses result (by_verb Verb.Price (left tokens.old)) }
 {
-    let Items { cells, bytes } = read_items(tokens)?;
-    if cells.is_empty() {
-        return Err(Bad::MissingArgument);
-    }
-    if cells.len() > 1 {
+    let mut items = read_all(tokens)?;
+    let item = items.pop().ok_or(Bad::MissingArgument)?;
+    if !items.is_empty() {
         return Err(Bad::TooMuch);
     }
-    Ok(Call::Price(cells[0], bytes))
+    Ok(Call::Price(item))
 }
 
 /// What stands behind the verb.
@@ -136,22 +132,13 @@ fn read_call(verb: Verb, tokens: &mut Tokens) -> Result<Call, Bad>
     ensures as_spelled { Parses result (by_verb verb (left tokens.old)) }
 {
     match verb {
-        Verb::Carrier => Ok(Call::Carrier(read_opening(tokens)?)),
-        Verb::Row => {
-            tokens.end()?;
-            Ok(Call::Row)
-        }
-        Verb::Room => {
-            tokens.end()?;
-            Ok(Call::Room)
-        }
-        Verb::Waiting => {
-            tokens.end()?;
-            Ok(Call::Waiting)
-        }
+        Verb::Carrier => read_opening(tokens).map(Call::Carrier),
+        Verb::Row => tokens.end().and(Ok(Call::Row)),
+        Verb::Room => tokens.end().and(Ok(Call::Room)),
+        Verb::Waiting => tokens.end().and(Ok(Call::Waiting)),
         Verb::Price => read_price(tokens),
-        Verb::ItemPut => Ok(Call::ItemPut(read_items(tokens)?)),
-        Verb::ItemTake => Ok(Call::ItemTake(read_kinds(tokens)?)),
+        Verb::ItemPut => read_all(tokens).map(Call::ItemPut),
+        Verb::ItemTake => read_all(tokens).map(Call::ItemTake),
     }
 }
 
@@ -160,12 +147,11 @@ pub fn parse(heap: Global, line: &[u8]) -> Result<Call, Bad>
     ensures as_spelled { Parses result (call_of (tokens_of (uncarried line.now))) }
 {
     let mut tokens = Tokens::of(heap, trimmed(line));
-    match tokens.next() {
-        Some(Token::Word(w)) => match pick(w, &VERBS) {
-            Some(verb) => read_call(verb, &mut tokens),
-            None => Err(Bad::UnknownVerb),
-        },
-        None => Err(Bad::NoVerb),
+    match tokens.next().ok_or(Bad::NoVerb)? {
+        Token::Word(w) => {
+            let verb = pick(w, &VERBS).ok_or(Bad::UnknownVerb)?;
+            read_call(verb, &mut tokens)
+        }
         _ => Err(Bad::Brackets),
     }
 }
