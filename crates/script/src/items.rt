@@ -202,7 +202,7 @@ pub(crate) fn read_all<T: Listed>(tokens: &mut Tokens) -> Result<Vec<T>, Bad>
     Ok(all)
 }
 
-/// The item, with the bytes that it owns lent.
+/// The item, with the bytes that it owns lent. (No `From`: both types are other crates'.)
 pub fn lent<'a>(item: &'a Item<Vec<u8>>) -> Item<&'a [u8]>
     ensures same { datum result ≡ owned item.now }
 {

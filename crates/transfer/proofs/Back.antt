@@ -12,6 +12,7 @@ use Rattle.carrier.specs.declared.Kind.TheVariants as kind
 use Rattle.transfer.specs.Cells.{Cell}
 use Rattle.transfer.specs.declared.cells.Taking.{Taking}
 use Rattle.refusal.specs.declared.Refusal.{Refusal}
+use Rattle.transfer.proofs.Takes.{bulks_append}
 
 -- ds are the items got and others, of which y holds the codes
 record Rest (code : Datum → List ℕ) (more : List Kind) (got ds : List Datum) (x y : List ℕ) : Type 0 where
@@ -66,10 +67,6 @@ no_cause : (code : Datum → List ℕ) (k : Kind) (cells left : ℕ) (row rest :
 no_cause code k cells left row rest r d of held h fits e (no_cell p) = omega arith
 no_cause code k cells left row rest r d of held h fits e (no_bytes p q) = omega (arith, lacking k d left of q)
 no_cause code k cells left row rest r d of held h fits e (no_item p q none) = none d rest (still_of k d left of fits) held e
-
-bulks_append : (xs ys : List Datum) → bulks (xs ++ ys) ≡ bulks xs + bulks ys
-bulks_append [] ys = omega arith
-bulks_append (x ∷ xs) ys = let h = bulks_append xs ys in omega arith
 
 module _ {code : Datum → List ℕ} (apart : Apart code) {ks : List Kind} {n : ℕ} {e : CarrierFault} {cells cells' : List Cell} {bytes bytes' : List ℕ} {s t : State} (m : Stopped code ks n e cells cells' bytes bytes' s t) where
   abbrev got : List Datum

@@ -1,5 +1,6 @@
 -- Items that are put one after another. Assumes nothing.
 use Rattle.std.proofs.Common.{◌≡◌, ℕ, ◌+◌, ◌-◌, ◌<◌, ◌≤◌, false, List, [], ◌∷◌, ◌++◌, map, length, get_or, take, drop, sym, refl, ap, ◌∙◌, append_assoc, append-nil, arith, take-append-drop}
+use Rattle.std.proofs.lemmas.Grind.{flat_map-append}
 use Rattle.std.proofs.lemmas.List.{take_more, take_all, length-append, get_or-map, length-map}
 use Rattle.carrier.specs.Items.{Datum}
 use Rattle.carrier.specs.Meaning.{datum}
@@ -8,10 +9,6 @@ use Rattle.carrier.specs.declared.Item.{Item}
 use Rattle.carrier.specs.declared.Item.TheVariants.{Truth}
 use Rattle.carrier.specs.Steps.{State, Added, TooLong}
 use Rattle.carrier.specs.Lists.{codes}
-
-pub codes_append : (code : Datum → List ℕ) (xs ys : List Datum) → codes code (xs ++ ys) ≡ codes code xs ++ codes code ys
-codes_append code [] ys = refl
-codes_append code (x ∷ xs) ys = ap (λ l. code x ++ l) (codes_append code xs ys) ∙ sym (append_assoc (code x) (codes code xs) (codes code ys))
 
 -- the codes of the first i items have been put
 pub record Sofar (code : Datum → List ℕ) (ds : List Datum) (i : ℕ) (s t : State) : Type 0 where
@@ -22,13 +19,13 @@ pub record Sofar (code : Datum → List ℕ) (ds : List Datum) (i : ℕ) (s t : 
 
 codes_some : (code : Datum → List ℕ) (ds : List Datum) (i : ℕ) → length (codes code (take i ds)) ≤ length (codes code ds)
 codes_some code ds i =
-    let e = ap length (sym (codes_append code (take i ds) (drop i ds)) ∙ ap (codes code) (take-append-drop i ds)) in
+    let e = ap length (sym (flat_map-append code (take i ds) (drop i ds)) ∙ ap (codes code) (take-append-drop i ds)) in
     omega (arith, simp length-append at e)
 
 module _ (code : Datum → List ℕ) (ds : List Datum) (i : ℕ) (d : Datum) (h : i < length ds) (is : get_or ds i d ≡ d) where
   pub codes_more : codes code (take (i + 1) ds) ≡ codes code (take i ds) ++ code d
   codes_more =
-      ap (codes code) (take_more ds i d h) ∙ codes_append code (take i ds) (get_or ds i d ∷ [])
+      ap (codes code) (take_more ds i d h) ∙ flat_map-append code (take i ds) (get_or ds i d ∷ [])
       ∙ ap (λ l. codes code (take i ds) ++ l) (append-nil (code (get_or ds i d)) ∙ ap code is)
 
   pub price_more : length (codes code (take (i + 1) ds)) ≡ length (codes code (take i ds)) + length (code d)

@@ -1,5 +1,6 @@
 -- Items that are taken into lent memory one after another. Assumes nothing.
 use Rattle.std.proofs.Common.{◌≡◌, ℕ, ◌+◌, ◌-◌, ◌^◌, ◌<◌, ◌≤◌, List, [], ◌∷◌, ◌++◌, map, length, get_or, take, drop, set, sym, refl, ap, ◌∙◌, subst, ⊎_elim, append_assoc, append-nil, arith}
+use Rattle.std.proofs.lemmas.Grind.{flat_map-append}
 use Rattle.std.proofs.lemmas.List.{length-append, length_push, length-set, take_more, take_more_set, take_all, take-take, drop-take, drop-set-lt, drop-drop, map-append, length-map, length-take}
 use Rattle.std.proofs.lemmas.Bool.{cases_lt}
 use Rattle.carrier.specs.Items.{Datum, run, fixed, Held, Of, All, bulk}
@@ -15,7 +16,6 @@ use Rattle.transfer.specs.declared.cells.Span.{Span}
 use Rattle.refusal.specs.declared.Refusal.{Refusal}
 use Rattle.refusal.specs.declared.Refusal.TheVariants.{ResultMemory}
 use Rattle.carrier.proofs.Rows.{all_append}
-use Rattle.transfer.proofs.Puts.{codes_append}
 
 -- a cell depends on the bytes below its end alone
 within_front : (n : ℕ) (bs : List ℕ) (s : Span) → s.start + s.len ≤ n → within bs s ≡ within (take n bs) s
@@ -49,9 +49,9 @@ belows_more : (m n : ℕ) (cells : List Cell) → m ≤ n → All (Below m) cell
 belows_more m n [] h p = p
 belows_more m n (x ∷ xs) h p = (below_more m n x h p.0, belows_more m n xs h p.1)
 
-bulks_push : (ds : List Datum) (d : Datum) → bulks (ds ++ (d ∷ [])) ≡ bulks ds + bulk d
-bulks_push [] d = omega arith
-bulks_push (x ∷ ds) d = let h = bulks_push ds d in omega arith
+pub bulks_append : (xs ys : List Datum) → bulks (xs ++ ys) ≡ bulks xs + bulks ys
+bulks_append [] ys = omega arith
+bulks_append (x ∷ xs) ys = let h = bulks_append xs ys in omega arith
 
 each_push : (ks : List Kind) (ds : List Datum) (k : Kind) (d : Datum) → Each ks ds → Of k d → Each (ks ++ (k ∷ [])) (ds ++ (d ∷ []))
 each_push [] [] k d p q = (q, tt)
@@ -60,7 +60,7 @@ each_push (x ∷ ks) [] k d p q = absurd p
 each_push (x ∷ ks) (y ∷ ds) k d p q = (p.0, each_push ks ds k d p.1 q)
 
 codes_push : (code : Datum → List ℕ) (ds : List Datum) (d : Datum) → codes code (ds ++ (d ∷ [])) ≡ codes code ds ++ code d
-codes_push code ds d = codes_append code ds (d ∷ []) ∙ ap (λ l. codes code ds ++ l) (append-nil (code d))
+codes_push code ds d = flat_map-append code ds (d ∷ []) ∙ ap (λ l. codes code ds ++ l) (append-nil (code d))
 
 pub took_none : (code : Datum → List ℕ) (s : State) → Took code [] [] s s
 took_none code s = record { kinds = tt; held = tt; row = refl; capacity = refl; count = omega arith; drained = λ h e. absurd (omega arith); untouched = λ h. refl }
@@ -117,7 +117,7 @@ module _ {code : Datum → List ℕ} {ks : List Kind} {i used numbers : ℕ} {ce
     items_more = ap (map (read bytes'')) (take_more_set cells' i cell in_cells) ∙ map-append (read bytes'') (take i cells') (cell ∷ []) ∙ ap (λ l. l ++ (new ∷ [])) old_items
 
     used_more : used + bulk new ≡ bulks (items (i + 1) (set cells' i cell) bytes'')
-    used_more = omega (arith, ap bulks items_more, bulks_push (items i cells' bytes') new, m.used_is)
+    used_more = omega (arith, ap bulks items_more, bulks_append (items i cells' bytes') (new ∷ []), m.used_is)
 
     numbers_more : numbers + length (code new) ≡ length (codes code (items (i + 1) (set cells' i cell) bytes''))
     numbers_more = omega (arith, ap (λ l. length (codes code l)) items_more, ap length (codes_push code (items i cells' bytes') new), length-append (codes code (items i cells' bytes')) (code new), m.numbers_is)

@@ -75,7 +75,7 @@ pub fn take_items<C: Carrier>(
         bytes: 0,
         numbers: 0,
     };
-    // By the index: what a slice ends as is not known where `get_mut`, or `iter_mut` in a `zip`, lends it.
+    // By the index: the proof did not close over a `zip` with `iter_mut`, behind which the cells are not known.
     for (i, kind) in kinds.iter().enumerate() {
         if i >= cells.len() {
             return Err(CarrierFault::no_memory(so_far.numbers));

@@ -26,7 +26,7 @@ impl Span {
 /// An item in lent memory: the bytes of a run or a fixed lie in a byte memory beside.
 pub type Cell = Item<Span>;
 
-/// The item in the cell, with its bytes in the byte memory.
+/// The item in the cell, with its bytes in the byte memory. (No method: the type is another crate's.)
 pub fn item_in<'a>(cell: Cell, bytes: &'a [u8]) -> Item<&'a [u8]>
     ensures is_read { datum result ≡ read bytes.now cell }
 {
