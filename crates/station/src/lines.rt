@@ -10,18 +10,6 @@ pub(crate) struct Lines<'a> {
     number: u64,
 }
 
-// Where the first line ends.
-fn line_end(text: &[u8]) -> usize
-    ensures { result ≤ length text.now }
-{
-    for (i, b) in text.iter().enumerate() {
-        if *b == b'\n' {
-            return i;
-        }
-    }
-    text.len()
-}
-
 impl<'a> Lines<'a> {
     pub(crate) fn of(text: &'a [u8]) -> Lines<'a> {
         Lines {
@@ -39,17 +27,15 @@ impl<'a> Lines<'a> {
     pub(crate) fn next(&mut self) -> Option<&'a [u8]>
         ensures { OnSome result (left self.new < left self.old) }
     {
-        let text = self.rest;
-        if text.is_empty() {
+        if self.rest.is_empty() {
             return None;
         }
         self.number = self.number.saturating_add(1);
-        let end = line_end(text);
-        self.rest = if end < text.len() {
-            &text[end + 1..]
-        } else {
-            &text[end..]
+        let (line, rest) = match self.rest.iter().position(|b| *b == b'\n') {
+            Some(end) => (&self.rest[..end], &self.rest[end + 1..]),
+            None => self.rest.split_at(self.rest.len()),
         };
-        Some(&text[0..end])
+        self.rest = rest;
+        Some(line)
     }
 }

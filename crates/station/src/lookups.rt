@@ -42,30 +42,6 @@ where
     Ok(map.len())
 }
 
-fn say_position(out: &mut String, place: Option<FieldPosition>) -> Result<(), AllocError> {
-    match place {
-        Some(position) => {
-            out.push_str("ok ")?;
-            print::number(out, position.0 as u64)
-        }
-        None => out.push_str("none"),
-    }
-}
-
-// Behind the answer, for people: how many keys there are, and how many of them are different.
-fn say_different(
-    out: &mut String,
-    what: &str,
-    keys: usize,
-    different: usize,
-) -> Result<(), AllocError> {
-    out.push_str(" -- ")?;
-    out.push_str(what)?;
-    print::number(out, keys as u64)?;
-    out.push_str(", different: ")?;
-    print::number(out, different as u64)
-}
-
 // Where a key stands among others of its key space, which `what` names for people.
 pub(crate) fn say_sought<S: NumberedKeySpace>(
     heap: Global,
@@ -82,9 +58,14 @@ where
     let Ok(place) = position_of(space, among, &mut slots, sought.key) else {
         unreachable!()
     };
-    say_position(out, place)?;
+    match place {
+        Some(FieldPosition(place)) => write!(out, "ok {place}")?,
+        None => out.push_str("none")?,
+    }
+
+    // Behind the answer, for people: how many keys there are, and how many of them are different.
     let different = count_different(heap, space, among)?;
-    say_different(out, what, among.len(), different)
+    write!(out, " -- {what}{}, different: {different}", among.len())
 }
 
 pub(crate) fn say_no_name(out: &mut String) -> Result<(), AllocError> {

@@ -4,73 +4,46 @@ ghost use Rattle.std.specs.Prelude.{◌<◌, IfOk, OnSome};
 ghost use Rattle.station.specs.Left.{left};
 
 use crate::lines::Lines;
-use avro::AvroCarrier;
+use avro::Avro;
 use carrier::{Carrier, Item, Kind};
+use queue::coding::Coding;
+use queue::lent::Queue;
 use script::call::{Call, Opening, parse};
-use script::items::Items;
+use script::items::lent;
 use script::line::is_remark;
 use spelling::bad::Bad;
 use std::alloc::{AllocError, Global};
 use std::io::Write;
 use transfer::calls::{put_items, take_items};
 use transfer::cells::Cell;
-use words::WordCarrier;
+use words::Words;
 
-/// A carrier whose row can be printed.
-trait Shown {
-    /// How many numbers wait.
-    fn waiting_numbers(&self) -> usize;
-
-    fn print_row(&self, out: &mut String) -> Result<(), AllocError>;
+/// A coding whose rows can be printed.
+trait Shown: Coding {
+    fn print_row(row: &[Self::Number], out: &mut String) -> Result<(), AllocError>;
 }
 
-impl<'a> Shown for AvroCarrier<'a> {
-    fn waiting_numbers(&self) -> usize {
-        self.row().len()
-    }
-
-    fn print_row(&self, out: &mut String) -> Result<(), AllocError> {
-        print::hex(out, self.row())
+impl Shown for Avro {
+    fn print_row(row: &[u8], out: &mut String) -> Result<(), AllocError> {
+        print::hex(out, row)
     }
 }
 
-impl<'a> Shown for WordCarrier<'a> {
-    fn waiting_numbers(&self) -> usize {
-        self.row().len()
-    }
-
-    fn print_row(&self, out: &mut String) -> Result<(), AllocError> {
-        print::words(out, self.row())
-    }
-}
-
-fn say_number(out: &mut String, n: u64) -> Result<(), AllocError> {
-    out.push_str("ok ")?;
-    print::number(out, n)
-}
-
-fn say_truth(out: &mut String, b: bool) -> Result<(), AllocError> {
-    if b {
-        out.push_str("true")
-    } else {
-        out.push_str("false")
+impl Shown for Words {
+    fn print_row(row: &[u64], out: &mut String) -> Result<(), AllocError> {
+        print::words(out, row)
     }
 }
 
 fn say_put<C: Carrier>(
-    heap: Global,
     c: &mut C,
-    items: &Items,
+    items: &[Item<Vec<u8>>],
     out: &mut String,
 ) -> Result<(), AllocError> {
-    let bytes = items.bytes.as_slice();
-    let mut all: Vec<Item> = Vec::new(heap);
-    for cell in items.cells.iter() {
-        all.push(cell.item(bytes))?;
-    }
+    let all: Vec<Item<&[u8]>> = items.iter().map(lent).collect(*out.allocator())?;
     match put_items(c, &all) {
-        Ok(n) => say_number(out, n),
-        Err(fault) => answers::case(out, fault.case()),
+        Ok(n) => write!(out, "ok {n}"),
+        Err(fault) => answers::case(out, fault.into()),
     }
 }
 
@@ -83,63 +56,53 @@ fn bounded(kind: Kind, waiting: usize) -> Kind {
     }
 }
 
-// Memory that holds whatever items of the kinds can wait, as far as there is any.
-fn room_for(heap: Global, kinds: &[Kind], waiting: usize) -> Result<Vec<u8>, AllocError> {
-    let mut size = waiting;
-    for kind in kinds {
-        if let Kind::Fixed(n) = *kind {
-            size = size.saturating_add(n);
-        }
-    }
-    vec![in heap; 0u8; size]
+// How many bytes hold whatever items of the kinds can wait, as far as there are so many.
+fn bytes_for(kinds: &[Kind], waiting: usize) -> usize {
+    kinds.iter().fold(waiting, |size, kind| match kind {
+        Kind::Fixed(n) => size.saturating_add(*n),
+        _ => size,
+    })
 }
 
-fn say_take<C: Carrier + Shown>(
-    heap: Global,
-    c: &mut C,
+fn say_take<C: Coding>(
+    queue: &mut Queue<'_, C>,
     kinds: &[Kind],
     out: &mut String,
 ) -> Result<(), AllocError> {
-    let waiting = c.waiting_numbers();
-    let mut asked = Vec::new(heap);
-    for kind in kinds {
-        asked.push(bounded(*kind, waiting))?;
-    }
-    let mut bytes = room_for(heap, &asked, waiting)?;
+    let heap = *out.allocator();
+    let waiting = queue.row().len();
+    let asked: Vec<Kind> = kinds
+        .iter()
+        .map(|kind| bounded(*kind, waiting))
+        .collect(heap)?;
+    let mut bytes = vec![in heap; 0u8; bytes_for(&asked, waiting)]?;
     let mut cells = vec![in heap; Cell::Truth(false); kinds.len()]?;
-    match take_items(c, &asked, &mut cells, &mut bytes) {
+    match take_items(queue, &asked, &mut cells, &mut bytes) {
         Ok(_) => {
             out.push_str("ok")?;
             print::items(out, &cells, &bytes)
         }
-        Err(fault) => answers::case(out, fault.case()),
+        Err(fault) => answers::case(out, fault.into()),
     }
 }
 
 /// What answers the calls on a carrier.
 trait Station {
-    fn answer(&mut self, heap: Global, call: &Call, out: &mut String) -> Result<(), Bad>;
+    fn answer(&mut self, call: &Call, out: &mut String) -> Result<(), Bad>;
 }
 
-/// A station with a carrier in use.
-#[derive(Drop)]
-struct Open<C> {
-    carrier: C,
-}
-
-impl<C: Carrier + Shown> Station for Open<C> {
-    fn answer(&mut self, heap: Global, call: &Call, out: &mut String) -> Result<(), Bad> {
-        let c = &mut self.carrier;
+impl<C: Shown> Station for Queue<'_, C> {
+    fn answer(&mut self, call: &Call, out: &mut String) -> Result<(), Bad> {
         match call {
             Call::Row => {
                 out.push_str("ok ")?;
-                c.print_row(out)?;
+                C::print_row(self.row(), out)?;
             }
-            Call::Room => say_number(out, c.room())?,
-            Call::Waiting => say_truth(out, c.waiting())?,
-            Call::Price(cell, bytes) => say_number(out, c.price(cell.item(bytes)))?,
-            Call::ItemPut(items) => say_put(heap, c, items, out)?,
-            Call::ItemTake(kinds) => say_take(heap, c, kinds, out)?,
+            Call::Room => write!(out, "ok {}", self.room())?,
+            Call::Waiting => write!(out, "{}", self.waiting())?,
+            Call::Price(item) => write!(out, "ok {}", self.price(lent(item)))?,
+            Call::ItemPut(items) => say_put(self, items, out)?,
+            Call::ItemTake(kinds) => say_take(self, kinds, out)?,
             Call::Carrier(_) => {}
         }
         Ok(())
@@ -151,7 +114,7 @@ impl<C: Carrier + Shown> Station for Open<C> {
 struct Closed {}
 
 impl Station for Closed {
-    fn answer(&mut self, _heap: Global, _call: &Call, _out: &mut String) -> Result<(), Bad> {
+    fn answer(&mut self, _call: &Call, _out: &mut String) -> Result<(), Bad> {
         Err(Bad::NoCarrier)
     }
 }
@@ -166,8 +129,8 @@ enum Memory {
 
 fn memory_of(heap: Global, opening: Opening) -> Result<Memory, AllocError> {
     match opening {
-        Opening::Avro(n) => Ok(Memory::Avro(vec![in heap; 0u8; n]?)),
-        Opening::Words(n) => Ok(Memory::Words(vec![in heap; 0u64; n]?)),
+        Opening::Avro(n) => vec![in heap; 0u8; n].map(Memory::Avro),
+        Opening::Words(n) => vec![in heap; 0u64; n].map(Memory::Words),
         Opening::AvroWritten(bytes) => Ok(Memory::Written(bytes)),
     }
 }
@@ -181,10 +144,20 @@ fn tell(rt: &HostRuntime, line: &[u8]) -> anyhow::Result<()> {
     Ok(())
 }
 
-fn tell_bad(rt: &HostRuntime, line: u64, bad: Bad) -> anyhow::Result<()> {
-    let mut out = String::new(rt.alloc());
-    answers::bad_line(&mut out, line, bad)?;
-    tell(rt, out.as_bytes())
+/// What a call asks for: it was answered, or it opens a carrier on memory.
+fn answer<S: Station>(
+    heap: Global,
+    station: &mut S,
+    line: &[u8],
+    out: &mut String,
+) -> Result<Option<Memory>, Bad> {
+    match parse(heap, line)? {
+        Call::Carrier(opening) => Ok(Some(memory_of(heap, opening)?)),
+        call => {
+            station.answer(&call, out)?;
+            Ok(None)
+        }
+    }
 }
 
 // Answers one line, or answers the memory of the carrier that it opens.
@@ -194,23 +167,20 @@ fn play_line<S: Station>(
     number: u64,
     line: &[u8],
 ) -> anyhow::Result<Option<Memory>> {
-    let heap = rt.alloc();
     if is_remark(line) {
         tell(rt, line)?;
         return Ok(None);
     }
+    let heap = rt.alloc();
     let mut out = String::new(heap);
-    let answered = match parse(heap, line) {
-        Ok(Call::Carrier(opening)) => match memory_of(heap, opening) {
-            Ok(memory) => return Ok(Some(memory)),
-            Err(_) => Err(Bad::NoMemory),
-        },
-        Ok(call) => station.answer(heap, &call, &mut out),
-        Err(bad) => Err(bad),
-    };
-    match answered {
-        Ok(()) => tell(rt, out.as_bytes())?,
-        Err(bad) => tell_bad(rt, number, bad)?,
+    match answer(heap, station, line, &mut out) {
+        Ok(None) => tell(rt, out.as_bytes())?,
+        Ok(memory) => return Ok(memory),
+        Err(bad) => {
+            let mut out = String::new(heap);
+            answers::bad_line(&mut out, number, bad)?;
+            tell(rt, out.as_bytes())?;
+        }
     }
     Ok(None)
 }
@@ -242,31 +212,18 @@ fn play_opened(
 {
     tell(rt, b"ok")?;
     match memory {
-        Memory::Avro(mut bytes) => {
-            let carrier = AvroCarrier::on_memory(&mut bytes);
-            play_on(rt, lines, &mut Open { carrier })
-        }
-        Memory::Words(mut words) => {
-            let carrier = WordCarrier::on_memory(&mut words);
-            play_on(rt, lines, &mut Open { carrier })
-        }
-        Memory::Written(mut bytes) => {
-            let carrier = AvroCarrier::on_written(&mut bytes);
-            play_on(rt, lines, &mut Open { carrier })
-        }
+        Memory::Avro(mut bytes) => play_on(rt, lines, &mut avro::on_memory(&mut bytes)),
+        Memory::Words(mut row) => play_on(rt, lines, &mut words::on_memory(&mut row)),
+        Memory::Written(mut bytes) => play_on(rt, lines, &mut avro::on_written(&mut bytes)),
     }
 }
 
 /// Plays the whole script.
 pub(crate) fn play(rt: &HostRuntime, text: &[u8]) -> anyhow::Result<()> {
     let mut lines = Lines::of(text);
-    let Some(mut memory) = play_on(rt, &mut lines, &mut Closed {})? else {
-        return Ok(());
-    };
-    loop {
-        match play_opened(rt, &mut lines, memory)? {
-            Some(next) => memory = next,
-            None => return Ok(()),
-        }
+    let mut opened = play_on(rt, &mut lines, &mut Closed {})?;
+    while let Some(memory) = opened {
+        opened = play_opened(rt, &mut lines, memory)?;
     }
+    Ok(())
 }
