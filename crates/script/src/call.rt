@@ -98,11 +98,10 @@ impl Named for Verb {
 fn opening_of(heap: Global, sort: &[u8], value: &[u8]) -> Result<Opening, Bad>
     ensures as_spelled { Meets opened result (opens_by (sort_of sort.now) value.now) }
 {
-    match pick(sort, &SORTS) {
-        Some(Sort::Avro) => Ok(Opening::Avro(size(value)?)),
-        Some(Sort::Words) => Ok(Opening::Words(size(value)?)),
-        Some(Sort::AvroWritten) => Ok(Opening::AvroWritten(read_bytes(heap, value)?)),
-        None => Err(Bad::NotACarrier),
+    match pick(sort, &SORTS).ok_or(Bad::NotACarrier)? {
+        Sort::Avro => size(value).map(Opening::Avro),
+        Sort::Words => size(value).map(Opening::Words),
+        Sort::AvroWritten => read_bytes(heap, value).map(Opening::AvroWritten),
     }
 }
 
@@ -133,7 +132,7 @@ fn read_call(heap: Global, verb: Verb, tokens: &mut Tokens) -> Result<Call, Bad>
     ensures as_spelled { Parses result (by_verb verb (left tokens.old)) }
 {
     match verb {
-        Verb::Carrier => Ok(Call::Carrier(read_opening(heap, tokens)?)),
+        Verb::Carrier => read_opening(heap, tokens).map(Call::Carrier),
         Verb::Row => {
             tokens.end()?;
             Ok(Call::Row)
@@ -147,8 +146,8 @@ fn read_call(heap: Global, verb: Verb, tokens: &mut Tokens) -> Result<Call, Bad>
             Ok(Call::Waiting)
         }
         Verb::Price => read_price(heap, tokens),
-        Verb::ItemPut => Ok(Call::ItemPut(read_all(heap, tokens)?)),
-        Verb::ItemTake => Ok(Call::ItemTake(read_all(heap, tokens)?)),
+        Verb::ItemPut => read_all(heap, tokens).map(Call::ItemPut),
+        Verb::ItemTake => read_all(heap, tokens).map(Call::ItemTake),
     }
 }
 
@@ -158,10 +157,10 @@ pub fn parse(heap: Global, line: &[u8]) -> Result<Call, Bad>
 {
     let mut tokens = Tokens::of(trimmed(line));
     match tokens.next() {
-        Token::Word(w) => match pick(w, &VERBS) {
-            Some(verb) => read_call(heap, verb, &mut tokens),
-            None => Err(Bad::UnknownVerb),
-        },
+        Token::Word(w) => {
+            let verb = pick(w, &VERBS).ok_or(Bad::UnknownVerb)?;
+            read_call(heap, verb, &mut tokens)
+        }
         Token::End => Err(Bad::NoVerb),
         _ => Err(Bad::Brackets),
     }
