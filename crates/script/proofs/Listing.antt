@@ -6,10 +6,6 @@ use Rattle.spelling.specs.declared.bad.Bad.{Bad}
 use Rattle.spelling.specs.declared.bad.Bad.TheVariants.{Brackets}
 
 module _ {X : Type 0} where
-  pub behind_none : (o : Result (List X) Bad) → behind [] o ≡ o
-  behind_none (Ok l) = refl
-  behind_none (Err e) = refl
-
   pub behind_more : (xs : List X) (x : X) (all now rest : Result (List X) Bad) → behind xs now ≡ all → now ≡ ahead (Ok x) rest → behind (xs ++ x ∷ []) rest ≡ all
   behind_more xs x all now (Ok l) i e = ap Ok (append_assoc xs (x ∷ []) l) ∙ sym (ap (behind xs) e) ∙ i
   behind_more xs x all now (Err d) i e = sym (ap (behind xs) e) ∙ i
@@ -23,6 +19,10 @@ module _ {X : Type 0} where
 abbrev left_of : Result ((List ℕ × List ℕ) × List Tok) Bad → ℕ
 left_of (Ok p) = length p.1
 left_of (Err e) = 0
+
+-- the same reading, the fault by another name
+pub by_fault : {d e : Bad} (ts : List Tok) {o : Result ((List ℕ × List ℕ) × List Tok) Bad} → d ≡ e → a_pair d ts ≡ o → a_pair e ts ≡ o
+by_fault ts f h = ap (λ x. a_pair x ts) (sym f) ∙ h
 
 -- a pair takes tokens
 pub pair_shorter : (e : Bad) (ts rest : List Tok) (q : List ℕ × List ℕ) → a_pair e ts ≡ Ok (q, rest) → length rest < length ts

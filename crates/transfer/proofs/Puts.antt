@@ -1,7 +1,7 @@
 -- Items that are put one after another. Assumes nothing.
-use Rattle.std.proofs.Common.{◌≡◌, ℕ, ◌+◌, ◌-◌, ◌<◌, ◌≤◌, false, List, [], ◌∷◌, ◌++◌, map, length, get_or, take, drop, sym, refl, ap, ◌∙◌, append_assoc, append-nil, arith, take-append-drop}
+use Rattle.std.proofs.Common.{◌≡◌, ℕ, ◌+◌, ◌-◌, ◌<◌, ◌≤◌, false, List, [], ◌∷◌, ◌++◌, map, length, get_or, take, drop, sym, ap, ◌∙◌, append_assoc, append-nil, arith, take-append-drop}
 use Rattle.std.proofs.lemmas.Grind.{flat_map-append}
-use Rattle.std.proofs.lemmas.List.{take_more, take_all, length-append, get_or-map, length-map}
+use Rattle.std.proofs.lemmas.List.{take_more, length-append, get_or-map, length-map}
 use Rattle.carrier.specs.Items.{Datum}
 use Rattle.carrier.specs.Meaning.{datum}
 use Rattle.std.specs.Borrow.{Bor}
@@ -44,19 +44,6 @@ module _ (code : Datum → List ℕ) (ds : List Datum) (i : ℕ) (d : Datum) (h 
 
   pub sofar_fits : (s t u : State) → Sofar code ds i s t → TooLong (code d) t u → ⊥
   sofar_fits s t u m k = omega (arith, price_under)
-
-pub sofar_none : (code : Datum → List ℕ) (ds : List Datum) (s : State) → length (codes code ds) ≤ s.capacity - s.count → Sofar code ds 0 s s
-sofar_none code ds s h = record { fits = h; row = sym (append-nil s.row); capacity = refl; count = omega arith }
-
-pub sofar_all : (code : Datum → List ℕ) (ds : List Datum) (i : ℕ) (s t : State) → length ds ≤ i → Sofar code ds i s t → Added (codes code ds) s t
-sofar_all code ds i s t h m =
-    let e = take_all i ds h in
-    record {
-      fits = m.fits;
-      row = m.row ∙ ap (λ l. s.row ++ codes code l) e;
-      capacity = m.capacity;
-      count = m.count ∙ ap (λ l. s.count + length (codes code l)) e;
-    }
 
 -- an element of a list, as an item without references
 module _ (xs : List (Item (Bor (List ℕ)))) (i : ℕ) (h : i < length xs) where

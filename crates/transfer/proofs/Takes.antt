@@ -62,9 +62,6 @@ each_push (x ∷ ks) (y ∷ ds) k d p q = (p.0, each_push ks ds k d p.1 q)
 codes_push : (code : Datum → List ℕ) (ds : List Datum) (d : Datum) → codes code (ds ++ (d ∷ [])) ≡ codes code ds ++ code d
 codes_push code ds d = flat_map-append code ds (d ∷ []) ∙ ap (λ l. codes code ds ++ l) (append-nil (code d))
 
-pub took_none : (code : Datum → List ℕ) (s : State) → Took code [] [] s s
-took_none code s = record { kinds = tt; held = tt; row = refl; capacity = refl; count = omega arith; drained = λ h e. absurd (omega arith); untouched = λ h. refl }
-
 took_more : (code : Datum → List ℕ) (ks : List Kind) (ds : List Datum) (k : Kind) (d : Datum) (s t u : State) → Took code ks ds s t → Of k d → Taken code d t u → Took code (ks ++ (k ∷ [])) (ds ++ (d ∷ [])) s u
 took_more code ks ds k d s t u m of a = record {
   kinds = each_push ks ds k d m.kinds of;
@@ -87,19 +84,6 @@ pub record Midway (code : Datum → List ℕ) (ks : List Kind) (i used numbers :
   pub fits : used ≤ length bytes
   pub other_cells : drop i cells' ≡ drop i cells
   pub other_bytes : drop used bytes' ≡ drop used bytes
-
-pub midway_none : (code : Datum → List ℕ) (ks : List Kind) (cells : List Cell) (bytes : List ℕ) (s : State) → Midway code ks 0 0 0 cells cells bytes bytes s s
-midway_none code ks cells bytes s = record {
-  took = took_none code s;
-  used_is = refl;
-  numbers_is = refl;
-  few = λ h. absurd (omega arith);
-  room = omega arith;
-  below = tt;
-  fits = omega arith;
-  other_cells = refl;
-  other_bytes = refl;
-}
 
 module _ {code : Datum → List ℕ} {ks : List Kind} {i used numbers : ℕ} {cells cells' : List Cell} {bytes bytes' : List ℕ} {s t : State} (m : Midway code ks i used numbers cells cells' bytes bytes' s t) (in-kinds : i < length ks) where
   abbrev here : Kind
