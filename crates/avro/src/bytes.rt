@@ -54,9 +54,8 @@ pub(crate) fn find_run(s: &[u8], most: usize) -> Option<(usize, usize)>
 {
     let (n, at) = read_groups(s, 9)?;
     let len = n / 2;
-    if n % 2 == 0 && len <= most as u64 && len <= (s.len() - at) as u64 {
-        Some((at, len as usize))
-    } else {
-        None
+    if n % 2 != 0 || len > most as u64 || len > (s.len() - at) as u64 {
+        return None;
     }
+    Some((at, len as usize))
 }
