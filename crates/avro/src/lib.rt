@@ -76,6 +76,7 @@ impl Coding for Avro {
         Some((unzigzag(n), k))
     }
 
+    // Two lines for each width: the library has no one call for both.
     fn find_single(row: &[u8]) -> Option<(u32, usize)> {
         let bytes = row.first_chunk::<4>()?;
         Some((u32::from_le_bytes(*bytes), 4))

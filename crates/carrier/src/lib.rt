@@ -127,6 +127,7 @@ pub trait Carrier {
     fn put(&mut self, item: Item<&[u8]>) -> Result<(), CarrierFault>
         ensures { Puts (code (datum item.entry)) result (state self.old) (state self.new) };
 
+    // A call for each plain kind: one for all would need a trait over the four types, and its impls for each carrier.
     fn take_truth(&mut self, taken: u64) -> Result<bool, CarrierFault>
         ensures { Takes code Kind.Truth truth taken result (state self.old) (state self.new) };
 

@@ -27,6 +27,7 @@ pub trait Coding {
     fn write(out: &mut [Self::Number], item: Item<&[u8]>) -> Option<usize>
         ensures { Writes number (code (datum item.entry)) result out.old out.new };
 
+    // A call for each plain kind: one for all would need a trait over the four types, and its impls for each coding.
     fn find_truth(row: &[Self::Number]) -> Option<(bool, usize)>
         ensures { Finds code Kind.Truth truth (map number row.now) result };
 

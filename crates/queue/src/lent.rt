@@ -7,6 +7,7 @@ use crate::coding::Coding;
 pub mod calls;
 
 /// A queue of numbers in lent memory: those from `take_at` up to `write_at` wait.
+// The places stand beside the memory, since this crate takes none from the heap: the caller lends it.
 #[derive(Drop)]
 pub struct Queue<'a, C: Coding> {
     memory: &'a mut [C::Number],

@@ -18,6 +18,7 @@ mod writing;
 use queue::lent::Queue;
 
 /// The number of an item's kind, which stands first in its code.
+// An enum of its own: one with the nouns of the script language would tie the code to that language.
 #[derive(Clone, Copy)]
 enum Tag {
     Truth = 0,
@@ -29,6 +30,7 @@ enum Tag {
 }
 
 /// The code of items in words.
+#[derive(Clone, Copy)]
 pub struct Words;
 
 /// A queue of words in lent memory.
