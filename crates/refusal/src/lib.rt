@@ -43,14 +43,12 @@ impl Refusal {
     {
         self as u8
     }
-}
 
-/// The reason in words, for people.
-impl fmt::Display for Refusal {
-    ghost output = { λ r. Some (sentence_of r) };
-
-    fn fmt<W: fmt::Write>(&self, f: &mut fmt::Formatter<W>) -> fmt::Result {
-        f.write_str(match self {
+    /// The reason in words, for people.
+    pub fn sentence(self) -> &'static str
+        ensures in_words { result.now ≡ sentence_of self }
+    {
+        match self {
             Refusal::NotThere => "no node, byte, field or schema has that number",
             Refusal::WorkMemory => "the work, table or result memory is below what the call needs",
             Refusal::Waiting => "nothing waits, or something waits where nothing may",
@@ -73,7 +71,15 @@ impl fmt::Display for Refusal {
             Refusal::Narrowing => "showing would narrow a value",
             Refusal::CarrierFull => "the carrier lacks space",
             Refusal::NoSuchItem => "the row begins with no such item",
-        })
+        }
+    }
+}
+
+impl fmt::Display for Refusal {
+    ghost output = { λ r. Some (sentence_of r) };
+
+    fn fmt<W: fmt::Write>(&self, f: &mut fmt::Formatter<W>) -> fmt::Result {
+        f.write_str(self.sentence())
     }
 }
 
@@ -89,17 +95,26 @@ pub enum Layer {
     Values,
 }
 
-impl fmt::Display for Layer {
-    ghost output = { λ l. Some (layer_name l) };
-
-    fn fmt<W: fmt::Write>(&self, f: &mut fmt::Formatter<W>) -> fmt::Result {
-        f.write_str(match self {
+impl Layer {
+    /// Its name, as users see it.
+    pub fn name(self) -> &'static str
+        ensures its_name { result.now ≡ layer_name self }
+    {
+        match self {
             Layer::Carrier => "carrier",
             Layer::Conversion => "conversion",
             Layer::History => "history",
             Layer::Types => "types",
             Layer::Values => "values",
-        })
+        }
+    }
+}
+
+impl fmt::Display for Layer {
+    ghost output = { λ l. Some (layer_name l) };
+
+    fn fmt<W: fmt::Write>(&self, f: &mut fmt::Formatter<W>) -> fmt::Result {
+        f.write_str(self.name())
     }
 }
 

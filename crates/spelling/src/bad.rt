@@ -27,12 +27,12 @@ pub enum Bad {
     NoCarrier,
 }
 
-/// The reason in words, for people.
-impl fmt::Display for Bad {
-    ghost output = { λ b. Some (reason_of b) };
-
-    fn fmt<W: fmt::Write>(&self, f: &mut fmt::Formatter<W>) -> fmt::Result {
-        f.write_str(match self {
+impl Bad {
+    /// The reason in words, for people.
+    pub fn reason(self) -> &'static str
+        ensures in_words { result.now ≡ reason_of self }
+    {
+        match self {
             Bad::NoVerb => "the line has no verb",
             Bad::UnknownVerb => "unknown verb",
             Bad::MissingArgument => "an argument is missing",
@@ -47,7 +47,15 @@ impl fmt::Display for Bad {
             Bad::TooMuch => "too much on the line",
             Bad::NoMemory => "no memory",
             Bad::NoCarrier => "no carrier is open",
-        })
+        }
+    }
+}
+
+impl fmt::Display for Bad {
+    ghost output = { λ b. Some (reason_of b) };
+
+    fn fmt<W: fmt::Write>(&self, f: &mut fmt::Formatter<W>) -> fmt::Result {
+        f.write_str(self.reason())
     }
 }
 
