@@ -4,5 +4,6 @@
 #![tactic(auto)]
 
 pub mod bad;
+pub mod layers;
 pub mod names;
 pub mod numbers;

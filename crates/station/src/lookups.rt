@@ -42,7 +42,7 @@ where
     Ok(map.len())
 }
 
-// Where a key stands among others of its key space, which `what` names for people.
+// Where a key stands among others of its key space, which `what` names for people: "ids: " or "names: ".
 pub(crate) fn say_sought<S: NumberedKeySpace>(
     heap: Global,
     space: &S,
