@@ -7,7 +7,7 @@ ghost use Rattle.carrier.specs.Items.{Laws};
 ghost use Rattle.queue.specs.Queues.{state_of};
 ghost use Rattle.avro.specs.Avro.{avro};
 ghost use Rattle.avro.specs.Codes.{avro_laws};
-ghost use Rattle.avro.specs.Samples.{Published};
+ghost use Rattle.avro.specs.Samples.{Published, published};
 
 mod bytes;
 mod groups;
@@ -49,6 +49,10 @@ impl Coding for Avro {
     ghost code = { avro };
 
     ghost laws = { avro_laws };
+
+    ghost Samples = { Published };
+
+    ghost samples = { published };
 
     fn len(item: Item<&[u8]>) -> usize {
         code_len(item)

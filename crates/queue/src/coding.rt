@@ -19,6 +19,11 @@ pub trait Coding {
 
     ghost laws: { Laws code };
 
+    // What published samples say of the code, which holds. Where none are published: Unit.
+    ghost Samples: { Type 0 };
+
+    ghost samples: { Samples };
+
     /// The length of the item's code.
     fn len(item: Item<&[u8]>) -> usize
         ensures { result ≡ length (code (datum item.entry)) };
