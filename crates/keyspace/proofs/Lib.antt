@@ -3,3 +3,4 @@ pub mod Taking
 pub mod Rounds
 pub mod Walks
 pub mod Steps
+pub mod Answered

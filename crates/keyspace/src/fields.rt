@@ -80,3 +80,32 @@ pub fn position_of<S: NumberedKeySpace>(
     };
     Ok(fields.find(slots, key)?.map(FieldPosition))
 }
+
+/// The position of the first field with this id, or none. Fewer slots than ids are refused, and stay as they were; else
+/// the slots are an index of the ids afterwards.
+pub fn position_of_id(
+    ids: &[FieldId],
+    slots: &mut [Slot],
+    id: FieldId,
+) -> Result<Option<FieldPosition>, TooFewSlots>
+    ensures first_position { FirstField (λ i. i.0) ids.now id.0 result }
+    ensures refused_exactly { is_ok result ≡ nat_le (length ids.now) (length slots.old) }
+    ensures refused_without_change { is_ok result ≡ false → slots.new ≡ slots.old }
+    ensures indexed { is_ok result ≡ true → IndexOf (λ i. i.0) spread ids.now (length ids.now) slots.new }
+{
+    position_of(&FieldIds, ids, slots, id)
+}
+
+/// The position of the first field with this name, or none, as `position_of_id` answers it.
+pub fn position_of_name(
+    names: &[Name],
+    slots: &mut [Slot],
+    name: Name,
+) -> Result<Option<FieldPosition>, TooFewSlots>
+    ensures first_position { FirstField text_of names.now (text_of name) result }
+    ensures refused_exactly { is_ok result ≡ nat_le (length names.now) (length slots.old) }
+    ensures refused_without_change { is_ok result ≡ false → slots.new ≡ slots.old }
+    ensures indexed { is_ok result ≡ true → IndexOf text_of name_number names.now (length names.now) slots.new }
+{
+    position_of(&FieldNames, names, slots, name)
+}

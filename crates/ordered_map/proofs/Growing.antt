@@ -5,7 +5,7 @@ use Rattle.std.proofs.lemmas.Bool.{cases_lt, cases_eq}
 use Rattle.keyspace.specs.Positions.{At, Meets, Absent}
 use Rattle.keyspace.specs.Slots.{IndexOf, slot_at, walked}
 use Rattle.keyspace.specs.Spots.{Passed, IsFree}
-use Rattle.ordered_map.specs.Mapped.{Distinct, Mapped}
+use Rattle.ordered_map.specs.Maps.{Distinct, Mapped}
 use Rattle.keyspace.specs.declared.slot.Taken.{Taken}
 use Rattle.keyspace.proofs.Reading.{one_entry}
 use Rattle.keyspace.proofs.Taking.{no_room, not_empty}

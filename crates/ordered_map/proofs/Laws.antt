@@ -4,8 +4,7 @@ use Rattle.std.proofs.lemmas.List.{get_or-set_same, get_or-set_other, length-set
 use Rattle.std.proofs.lemmas.Bool.{cases_lt}
 use Rattle.keyspace.specs.Positions.{At, Meets, Absent}
 use Rattle.ordered_map.specs.Content.{Holds, Within, SameContent, key_of, pair_of}
-use Rattle.ordered_map.specs.Mapped.{Distinct}
-use Rattle.ordered_map.specs.Maps.{Valued, ValueOrNone}
+use Rattle.ordered_map.specs.Maps.{Distinct, Valued, ValueOrNone}
 use Rattle.ordered_map.specs.Insertions.{Inserts, After, Latest, InsertedBefore, Reordered}
 use Rattle.ordered_map.specs.declared.entry.Entry.{Entry}
 use Rattle.keyspace.proofs.Reading.{one_entry}

@@ -2,7 +2,7 @@
 use Rattle.std.proofs.Common.{◌≡◌, ℕ, zero, suc, ◌⊎◌, List, ◌∷◌, sym, refl, ap, ◌∙◌, subst, inl, inr, ⊎_elim, arith}
 use Rattle.keyspace.specs.Positions.{Meets, Absent}
 use Rattle.ordered_map.specs.Content.{Within}
-use Rattle.ordered_map.specs.Mapped.{Distinct}
+use Rattle.ordered_map.specs.Maps.{Distinct}
 use Rattle.ordered_map.specs.Insertions.{Reordered, same, kept, swapped, both}
 
 module _ {E U : Type 0} (f : E → U) where

@@ -10,7 +10,7 @@ module _ {E U : Type 0} (f : E → U) (xs ys : List E) where
   pub same_length : map f xs ≡ map f ys → length xs ≡ length ys
   same_length e = sym (length-map xs f) ∙ ap length e ∙ length-map ys f
 
-  same_at : map f xs ≡ map f ys → (i : ℕ) (x y : E) → At xs i x → At ys i y → f x ≡ f y
+  pub same_at : map f xs ≡ map f ys → (i : ℕ) (x y : E) → At xs i x → At ys i y → f x ≡ f y
   same_at e i x y a b =
       ap f a.reads ∙ sym (get_or-map f xs i x (f x) a.within) ∙ ap (λ us. get_or us i (f x)) e ∙ get_or-map f ys i y (f x) b.within ∙ sym (ap f b.reads)
 

@@ -2,8 +2,7 @@
 use Rattle.std.specs.Prelude.{◌≡◌, ℕ, ◌<◌, Bool, true, ◌⊎◌, List, [], ◌∷◌, ◌++◌, Some, None, Option, ◌≢◌}
 use Rattle.keyspace.specs.Positions.{Meets, Absent}
 use Rattle.ordered_map.specs.Content.{Holds, key_of}
-use Rattle.ordered_map.specs.Mapped.{Distinct}
-use Rattle.ordered_map.specs.Maps.{Replaced, Appended}
+use Rattle.ordered_map.specs.Maps.{Distinct, Replaced, Appended}
 use Rattle.ordered_map.specs.declared.entry.Entry.{Entry}
 
 -- one insertion: a key that is there keeps its place, a new one comes last

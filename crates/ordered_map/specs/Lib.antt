@@ -1,4 +1,3 @@
 pub mod Content
-pub mod Mapped
 pub mod Maps
 pub mod Insertions

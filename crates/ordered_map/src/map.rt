@@ -1,25 +1,21 @@
 //! The ordered map, over memory that the caller lends.
 
-ghost use Rattle.std.specs.Prelude.{◌≤◌, length, take};
-ghost use Rattle.ordered_map.specs.Content.{key_of};
-ghost use Rattle.ordered_map.specs.Mapped.{Mapped};
+ghost use Rattle.std.specs.Prelude.{◌≤◌, length};
 
 use crate::entry::Entry;
 use keyspace::slot::Slot;
-use keyspace::space::{KeySpace, NumberedKeySpace};
 
 pub mod calls;
 
-/// Keys of a key space with their values, in the order of their first insertion, and an index of the keys.
+/// Keys with their values, in the order of their first insertion, and an index of the keys.
 // The entries stand beside how many of them are in use, since this crate takes no memory from the heap: the caller lends it.
+// No key space is kept in it: each call is handed one, which may have grown since the call before, or be made for this one.
 #[derive(Drop)]
-pub struct OrderedMap<'a, S: NumberedKeySpace, V> {
-    space: &'a S,
-    entries: &'a mut [Entry<S::Key, V>],
+pub struct OrderedMap<'a, K, V> {
+    entries: &'a mut [Entry<K, V>],
     slots: &'a mut [Slot],
     len: usize,
     ghost within: { len ≤ length entries.now },
-    pub ghost is_map: { ∥ Mapped (key_of (S.means space.now)) S.numberof (take len entries.now) slots.now ∥₁ },
 }
 
 /// The map has no room for one key more.

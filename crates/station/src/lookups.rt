@@ -37,7 +37,7 @@ where
     let mut slots = slots_for(heap, keys.len())?;
     let mut map = OrderedMap::new(space, &mut entries, &mut slots);
     for key in keys {
-        let _ = map.insert(*key, ());
+        let _ = map.insert(space, *key, ());
     }
     Ok(map.len())
 }
@@ -59,13 +59,20 @@ where
         unreachable!()
     };
     match place {
-        Some(FieldPosition(place)) => write!(out, "ok {place}")?,
+        Some(FieldPosition(place)) => {
+            out.push_str("ok ")?;
+            print::number(out, place as u64)?
+        }
         None => out.push_str("none")?,
     }
 
     // Behind the answer, for people: how many keys there are, and how many of them are different.
     let different = count_different(heap, space, among)?;
-    write!(out, " -- {what}{}, different: {different}", among.len())
+    out.push_str(" -- ")?;
+    out.push_str(what)?;
+    print::number(out, among.len() as u64)?;
+    out.push_str(", different: ")?;
+    print::number(out, different as u64)
 }
 
 pub(crate) fn say_no_name(out: &mut String) -> Result<(), AllocError> {

@@ -3,9 +3,9 @@
 ghost use Rattle.std.specs.Prelude.{◌≡◌, ◌+◌, ◌<◌, min, true, false, [], length, is_ok, ◌==◌, slice_set, Some};
 ghost use Rattle.ordered_map.specs.Content.{key_of};
 ghost use Rattle.ordered_map.specs.Insertions.{LatestOfAny, OneMore, OrderOfAny};
-ghost use Rattle.ordered_map.specs.Maps.{Inserted, Unchanged, ValueOrNone, capacity_of, entries_of, means_of};
+ghost use Rattle.ordered_map.specs.Maps.{Inserted, IsMap, Unchanged, ValueOrNone, capacity_of, entries_of};
 ghost use Rattle.keyspace.specs.Positions.{At};
-ghost use Rattle.keyspace.specs.Spots.{EndsAt, IsFree};
+ghost use Rattle.keyspace.specs.Spots.{EndsAt};
 
 use crate::entry::Entry;
 use crate::map::{MapFull, OrderedMap};
@@ -14,20 +14,20 @@ use keyspace::slot::{Slot, Spot, Taken};
 use keyspace::space::{KeySpace, Keyed, NumberedKeySpace};
 use std::mem;
 
-impl<'a, S: NumberedKeySpace, V: Copy> OrderedMap<'a, S, V> {
+impl<'a, K: Copy, V: Copy> OrderedMap<'a, K, V> {
     /// A map of no keys over this memory, whatever it holds.
-    pub fn new(
-        space: &'a S,
-        entries: &'a mut [Entry<S::Key, V>],
+    // The key space is named for the contract alone: empty slots are an index of no entries in every key space.
+    pub fn new<S: NumberedKeySpace<Key = K>>(
+        space: &S,
+        entries: &'a mut [Entry<K, V>],
         slots: &'a mut [Slot],
-    ) -> OrderedMap<'a, S, V>
-        ensures its_space { means_of result ≡ S.means space.now }
+    ) -> OrderedMap<'a, K, V>
         ensures no_keys { entries_of result ≡ [] }
         ensures room { capacity_of result ≡ min (length entries.old) (length slots.old) }
+        ensures is_map { IsMap (S.means space.now) S.numberof result }
     {
         slots.fill(None);
         OrderedMap {
-            space,
             entries,
             slots,
             len: 0,
@@ -49,7 +49,7 @@ impl<'a, S: NumberedKeySpace, V: Copy> OrderedMap<'a, S, V> {
     }
 
     /// Its entries, in the order of the first insertion of their keys.
-    pub fn entries(&self) -> &[Entry<S::Key, V>]
+    pub fn entries(&self) -> &[Entry<K, V>]
         ensures in_order { result.now ≡ entries_of self.now }
     {
         let len = self.len;
@@ -63,44 +63,32 @@ impl<'a, S: NumberedKeySpace, V: Copy> OrderedMap<'a, S, V> {
         self.entries.len().min(self.slots.len())
     }
 
-    /// Its entries, with the key space of their keys.
-    fn list(&self) -> KeyedList<'_, S, Entry<S::Key, V>>
-        ensures space { result.space.now ≡ self.now.space.now }
-        ensures in_order { result.entries.now ≡ entries_of self.now }
-    {
-        KeyedList {
-            space: self.space,
-            entries: self.entries(),
-        }
-    }
-
     /// Where the key is, or where there is room for it.
-    fn spot(&self, key: S::Key) -> Spot
-        ensures ends_at { EndsAt (key_of (means_of self.now)) S.numberof (entries_of self.now) self.now.slots.now (means_of self.now key) result }
+    fn spot<S: NumberedKeySpace<Key = K>>(&self, space: &S, key: K) -> Spot
+        ensures ends_at { EndsAt (key_of (S.means space.now)) S.numberof (entries_of self.now) self.now.slots.now (S.means space.now key) result }
     {
-        self.list().seek(self.slots, key)
+        let entries = self.entries();
+        KeyedList { space, entries }.seek(self.slots, key)
     }
 
     /// Puts another value at `place`, and answers the one that was there.
     fn replace(&mut self, place: usize, value: V) -> V
         requires there { place < self.old.len }
-        ensures written { (e : Entry S.Key V) → At self.old.entries.now place e → (result ≡ e.value) × (self.new.entries.now ≡ slice_set self.old.entries.now place (record { key = e.key; value = value })) }
+        ensures written { (e : Entry K V) → At self.old.entries.now place e → (result ≡ e.value) × (self.new.entries.now ≡ slice_set self.old.entries.now place (record { key = e.key; value = value })) }
         ensures slots { self.new.slots.now ≡ self.old.slots.now }
         ensures len { self.new.len ≡ self.old.len }
-        ensures space { self.new.space ≡ self.old.space }
     {
         let entries = &mut *self.entries;
         mem::replace(&mut entries[place].value, value)
     }
 
     /// Adds an entry at the end, and takes the slot `at` for it.
-    fn append(&mut self, entry: Entry<S::Key, V>, number: u32, at: usize)
+    fn append(&mut self, entry: Entry<K, V>, number: u32, at: usize)
         requires room { self.old.len < length self.old.entries.now }
-        requires free { IsFree (key_of (means_of self.old)) S.numberof (entries_of self.old) self.old.slots.now (means_of self.old entry.key) at number }
+        requires free { at < length self.old.slots.now }
         ensures entries { self.new.entries.now ≡ slice_set self.old.entries.now self.old.len entry }
         ensures slots { self.new.slots.now ≡ slice_set self.old.slots.now at (Some (record { number = number; position = self.old.len })) }
         ensures len { self.new.len ≡ self.old.len + 1 }
-        ensures space { self.new.space ≡ self.old.space }
     {
         let position = self.len;
         self.entries[position] = entry;
@@ -110,15 +98,20 @@ impl<'a, S: NumberedKeySpace, V: Copy> OrderedMap<'a, S, V> {
 
     /// Gives `key` the value, and answers the one that it had, or none where it is new. A key that is there keeps its
     /// place and stays as it was stored. A new key that finds no room is refused, and nothing changes.
-    pub fn insert(&mut self, key: S::Key, value: V) -> Result<Option<V>, MapFull>
-        ensures inserted { Inserted (means_of self.old) (capacity_of self.old) (entries_of self.old) (record { key = key; value = value }) (entries_of self.new) result }
-        ensures one_insertion_more { is_ok result ≡ true → OneMore (means_of self.old) (entries_of self.old) (record { key = key; value = value }) (entries_of self.new) }
-        ensures in_order_of_first_insertion { (means : S.Key → S.Value) → OrderOfAny means (entries_of self.new) }
+    pub fn insert<S: NumberedKeySpace<Key = K>>(
+        &mut self,
+        space: &S,
+        key: K,
+        value: V,
+    ) -> Result<Option<V>, MapFull>
+        ensures inserted { IsMap (S.means space.now) S.numberof self.old → Inserted (S.means space.now) (capacity_of self.old) (entries_of self.old) (record { key = key; value = value }) (entries_of self.new) result }
+        ensures still_a_map { IsMap (S.means space.now) S.numberof self.old → IsMap (S.means space.now) S.numberof self.new }
+        ensures one_insertion_more { IsMap (S.means space.now) S.numberof self.old → is_ok result ≡ true → OneMore (S.means space.now) (entries_of self.old) (record { key = key; value = value }) (entries_of self.new) }
+        ensures in_order_of_first_insertion { (means : K → S.Value) → OrderOfAny means (entries_of self.new) }
         ensures refused_without_change { is_ok result ≡ false → Unchanged self.old self.new }
         ensures same_room { capacity_of self.new ≡ capacity_of self.old }
-        ensures same_space { means_of self.new ≡ means_of self.old }
     {
-        match self.spot(key) {
+        match self.spot(space, key) {
             Spot::Found(place) => Ok(Some(self.replace(place, value))),
             Spot::Free { at, number } if self.len < self.capacity() => {
                 self.append(Entry { key, value }, number, at);
@@ -131,12 +124,12 @@ impl<'a, S: NumberedKeySpace, V: Copy> OrderedMap<'a, S, V> {
     }
 
     /// The value of the key, or none where the map does not have it.
-    pub fn get(&self, key: S::Key) -> Option<V>
-        ensures value { ValueOrNone (means_of self.now) (entries_of self.now) (means_of self.now key) result }
-        ensures latest_value { LatestOfAny (means_of self.now) (entries_of self.now) (means_of self.now key) result }
+    pub fn get<S: NumberedKeySpace<Key = K>>(&self, space: &S, key: K) -> Option<V>
+        ensures value { IsMap (S.means space.now) S.numberof self.now → ValueOrNone (S.means space.now) (entries_of self.now) (S.means space.now key) result }
+        ensures latest_value { IsMap (S.means space.now) S.numberof self.now → LatestOfAny (S.means space.now) (entries_of self.now) (S.means space.now key) result }
     {
-        let list = self.list();
-        let place = list.lookup(self.slots, key)?;
-        Some(list.entries[place].value)
+        let entries = self.entries();
+        let place = KeyedList { space, entries }.lookup(self.slots, key)?;
+        Some(entries[place].value)
     }
 }
