@@ -1,7 +1,9 @@
 -- Steps through a line. Assumes nothing.
-use Rattle.std.proofs.Common.{◌≡◌, ℕ, suc, ◌+◌, ◌<◌, true, false, cond, eqb, List, [], ◌∷◌, ◌++◌, length, get_or, take, drop, sym, refl, ap, ◌∙◌, append_assoc, append-nil, length-append, inl, inr, arith}
-use Rattle.std.specs.List.{prefix_len}
+use Rattle.std.proofs.Common.{◌≡◌, ℕ, suc, ◌+◌, ◌<◌, true, false, cond, eqb, List, [], ◌∷◌, ◌++◌, length, get_or, take, drop, sym, refl, ap, ◌∙◌, append_assoc, append-nil, length-append, Some, None, Option, inl, inr, arith}
+use Rattle.std.specs.List.{prefix_len, AllWithin, HoldsAt}
+use Rattle.std.specs.Option.{MatchOption, unwrap_or}
 use Rattle.std.proofs.lemmas.Bool.{cases_Bool}
+use Rattle.std.proofs.lemmas.List.Sums.{prefix_len_is}
 use Rattle.script.specs.Lexing.{Tok, opening, closing, word, blank, in_word, lexing, tokens}
 
 pub lex_none : tokens [] ≡ []
@@ -59,3 +61,10 @@ word_on w (b ∷ bs) h = elim (cases_Bool (in_word b)) [
 pub cut_word : (line : List ℕ) → 0 < length line → in_word (get_or line 0 0) ≡ true → tokens line ≡ word (take (prefix_len in_word line) line) ∷ tokens (drop (prefix_len in_word line) line)
 cut_word [] h e = absurd (omega arith)
 cut_word (b ∷ bs) h e = rw e (lex_inner b [] bs e ∙ word_on (b ∷ []) bs (omega arith) ∙ word_more [] bs b (prefix_len in_word bs))
+
+-- the word ends at the first byte that may not stand in it, or with the line
+pub len_of_place : (line : List ℕ) (r : Option ℕ) (n : ℕ) → n ≡ length line
+    → MatchOption r (AllWithin (λ b. in_word b ≡ true) line 0 (length line)) (λ i. (i < length line) × HoldsAt (λ b. in_word b ≡ false) line i × AllWithin (λ b. in_word b ≡ true) line 0 i)
+    → unwrap_or r n ≡ prefix_len in_word line
+len_of_place line None n e h = sym (prefix_len_is in_word line n 0 (omega arith) (λ k l. h k 0 (omega arith) (omega arith)) (λ l. absurd (omega arith)))
+len_of_place line (Some i) n e h = sym (prefix_len_is in_word line i 0 (omega (arith, h.0)) (λ k l. h.2 k 0 (omega arith) (omega arith)) (λ l. h.1 0))

@@ -1,3 +1,4 @@
 pub mod Cuts
+pub mod Laid
 pub mod Listing
 pub mod Seeks

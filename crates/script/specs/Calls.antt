@@ -1,10 +1,12 @@
 -- The calls that lines spell. Assumes nothing.
-use Rattle.std.specs.Prelude.{◌≡◌, ℕ, ◌⊎◌, List, [], ◌∷◌, Some, None, Ok, Err, vec_items, codes, Option, Result}
+use Rattle.std.specs.Prelude.{◌≡◌, ℕ, ◌⊎◌, List, [], ◌∷◌, length, Some, None, Ok, Err, vec_items, codes, Option, Result}
 use Rattle.std.specs.Option.{ok_or}
+use Rattle.std.specs.List.{AllByRecursion}
 use Rattle.carrier.specs.Items.{Datum}
+use Rattle.transfer.specs.Cells.{read, Below}
 use Rattle.carrier.specs.declared.Kind.{Kind}
 use Rattle.texts.specs.Encoded.{bytes_of}
-use Rattle.script.specs.Owning.{owned, datums}
+use Rattle.script.specs.Laying.{datums}
 use Rattle.script.specs.Lexing.{Tok, opening, closing, word}
 use Rattle.spelling.specs.Naming.{lookup}
 use Rattle.script.specs.Nouns.{size_of, items_of, kinds_of}
@@ -46,8 +48,8 @@ said (Carrier o) = carrier (opened o)
 said Row = row
 said Room = room
 said Waiting = waiting
-said (Price i) = price (owned i)
-said (ItemPut is) = put (datums is)
+said (Price c bs) = price (read (vec_items bs) c)
+said (ItemPut i) = put (datums i)
 said (ItemTake ks) = take (vec_items ks)
 
 abbrev pub verb_name : Verb → List ℕ
@@ -104,7 +106,17 @@ call_of (opening ∷ ts) = Err Brackets
 call_of (closing ∷ ts) = Err Brackets
 call_of (word w ∷ ts) = and_then (ok_or (verb_of w) UnknownVerb) (λ v. by_verb v ts)
 
+-- the bytes of its items lie inside its memory
+abbrev pub Placed : Call → Type 0
+Placed (Carrier o) = Unit {0}
+Placed Row = Unit {0}
+Placed Room = Unit {0}
+Placed Waiting = Unit {0}
+Placed (Price c bs) = Below (length (vec_items bs)) c
+Placed (ItemPut i) = AllByRecursion (Below (length (vec_items i.bytes))) (vec_items i.cells)
+Placed (ItemTake ks) = Unit {0}
+
 -- the call is what was spelled, or the reason why none was, or memory failed
 abbrev pub Parses : Result Call Bad → Result Deed Bad → Type 0
-Parses (Ok c) o = o ≡ Ok (said c)
+Parses (Ok c) o = (o ≡ Ok (said c)) × Placed c
 Parses (Err e) o = (e ≡ NoMemory) ⊎ (o ≡ Err e)

@@ -6,13 +6,14 @@ ghost use Rattle.script.specs.Lexing.{tokens as tokens_of, uncarried};
 ghost use Rattle.script.specs.Calls.{sort_name, verb_name, sort_of, opens_by, opening_of, opened, by_verb, call_of, Parses};
 ghost use Rattle.script.specs.Shapes.{Meets};
 
-use crate::items::{read_all, read_bytes};
+use crate::items::{Items, read_bytes, read_items, read_kinds};
 use crate::line::{Token, Tokens, trimmed};
-use carrier::{Item, Kind};
+use carrier::Kind;
 use spelling::bad::Bad;
 use spelling::names::{Named, pick};
 use spelling::numbers::size;
 use std::alloc::Global;
+use transfer::cells::Cell;
 
 /// A line as a call.
 #[derive(Drop)]
@@ -21,8 +22,8 @@ pub enum Call {
     Row,
     Room,
     Waiting,
-    Price(Item<Vec<u8>>),
-    ItemPut(Vec<Item<Vec<u8>>>),
+    Price(Cell, Vec<u8>),
+    ItemPut(Items),
     ItemTake(Vec<Kind>),
 }
 
@@ -119,12 +120,12 @@ fn read_opening(tokens: &mut Tokens) -> Result<Opening, Bad>
 fn read_price(tokens: &mut Tokens) -> Result<Call, Bad>
     ensures as_spelled { Parses result (by_verb Verb.Price (left tokens.old)) }
 {
-    let mut items = read_all(tokens)?;
-    let item = items.pop().ok_or(Bad::MissingArgument)?;
-    if !items.is_empty() {
-        return Err(Bad::TooMuch);
+    let Items { cells, bytes } = read_items(tokens)?;
+    match cells.as_slice() {
+        [] => Err(Bad::MissingArgument),
+        [cell] => Ok(Call::Price(*cell, bytes)),
+        _ => Err(Bad::TooMuch),
     }
-    Ok(Call::Price(item))
 }
 
 /// What stands behind the verb.
@@ -137,8 +138,8 @@ fn read_call(verb: Verb, tokens: &mut Tokens) -> Result<Call, Bad>
         Verb::Room => tokens.end().and(Ok(Call::Room)),
         Verb::Waiting => tokens.end().and(Ok(Call::Waiting)),
         Verb::Price => read_price(tokens),
-        Verb::ItemPut => read_all(tokens).map(Call::ItemPut),
-        Verb::ItemTake => read_all(tokens).map(Call::ItemTake),
+        Verb::ItemPut => read_items(tokens).map(Call::ItemPut),
+        Verb::ItemTake => read_kinds(tokens).map(Call::ItemTake),
     }
 }
 

@@ -41,7 +41,9 @@ fn is_inner(b: u8) -> bool
 fn word_len(line: &[u8]) -> usize
     ensures up_to_its_end { result ≡ prefix_len in_word line.now }
 {
-    line.iter().take_while(|b| is_inner(**b)).count()
+    line.iter()
+        .position(|b| !is_inner(*b))
+        .unwrap_or(line.len())
 }
 
 /// The token that begins the line, and what is left behind it.

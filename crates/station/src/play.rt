@@ -9,13 +9,13 @@ use carrier::{Carrier, Item, Kind};
 use queue::coding::Coding;
 use queue::lent::Queue;
 use script::call::{Call, Opening, parse};
-use script::items::lent;
+use script::items::Items;
 use script::line::is_remark;
 use spelling::bad::Bad;
 use std::alloc::{AllocError, Global};
 use std::io::Write;
 use transfer::calls::{put_items, take_items};
-use transfer::cells::Cell;
+use transfer::cells::{Cell, item_in};
 use words::Words;
 
 /// A coding whose rows can be printed.
@@ -35,12 +35,12 @@ impl Shown for Words {
     }
 }
 
-fn say_put<C: Carrier>(
-    c: &mut C,
-    items: &[Item<Vec<u8>>],
-    out: &mut String,
-) -> Result<(), AllocError> {
-    let all: Vec<Item<&[u8]>> = items.iter().map(lent).collect(*out.allocator())?;
+fn say_put<C: Carrier>(c: &mut C, items: &Items, out: &mut String) -> Result<(), AllocError> {
+    let all: Vec<Item<&[u8]>> = items
+        .cells
+        .iter()
+        .map(|cell| item_in(*cell, &items.bytes))
+        .collect(*out.allocator())?;
     match put_items(c, &all) {
         Ok(n) => write!(out, "ok {n}"),
         Err(fault) => answers::case(out, fault.into()),
@@ -100,7 +100,7 @@ impl<C: Shown> Station for Queue<'_, C> {
             }
             Call::Room => write!(out, "ok {}", self.room())?,
             Call::Waiting => write!(out, "{}", self.waiting())?,
-            Call::Price(item) => write!(out, "ok {}", self.price(lent(item)))?,
+            Call::Price(cell, bytes) => write!(out, "ok {}", self.price(item_in(*cell, bytes)))?,
             Call::ItemPut(items) => say_put(self, items, out)?,
             Call::ItemTake(kinds) => say_take(self, kinds, out)?,
             Call::Carrier(_) => {}
