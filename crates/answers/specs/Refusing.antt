@@ -5,6 +5,7 @@ use Rattle.refusal.specs.Sentences.{sentence_of, layer_name}
 use Rattle.refusal.specs.declared.Case.{Case}
 use Rattle.spelling.specs.Reasons.{reason_of}
 use Rattle.spelling.specs.declared.bad.Bad.{Bad}
+use Rattle.print.specs.Laws.{NumberBack}
 
 abbrev pub taken_text : Option ℕ → List ℕ
 taken_text None = []
@@ -20,3 +21,13 @@ case_text c = numbered_text c ++ (taken_text c.taken ++ (codes " -- " ++ sentenc
 
 abbrev pub bad_text : ℕ → Bad → List ℕ
 bad_text n b = codes "bad line " ++ (decimal n ++ (codes ": " ++ reason_of b))
+
+-- the numbers of a refusal as they are printed are read as the same again
+abbrev pub TakenBack : Option ℕ → Type 0
+TakenBack None = Unit {0}
+TakenBack (Some n) = NumberBack n
+
+pub record NumbersBack (c : Case) : Type 0 where
+  pub number : NumberBack (number_of c.refusal)
+  pub field : NumberBack c.field.0
+  pub taken : TakenBack c.taken

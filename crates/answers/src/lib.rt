@@ -3,7 +3,8 @@
 #![tactic(auto)]
 
 ghost use Rattle.std.specs.Prelude.{string_bytes};
-ghost use Rattle.answers.specs.Refusing.{case_text, bad_text};
+ghost use Rattle.answers.specs.Refusing.{case_text, bad_text, NumbersBack};
+ghost use Rattle.print.specs.Laws.{NumberBack};
 ghost use Rattle.print.specs.Printing.{Adds};
 
 use refusal::Case;
@@ -14,6 +15,7 @@ use std::alloc::AllocError;
 /// same in words.
 pub fn case(out: &mut String, case: Case) -> Result<(), AllocError>
     ensures added { Adds result (case_text case) (string_bytes out.old) (string_bytes out.new) }
+    ensures numbers_read_back { NumbersBack case }
 {
     let Case {
         refusal,
@@ -31,6 +33,7 @@ pub fn case(out: &mut String, case: Case) -> Result<(), AllocError>
 /// That a line is no call, with its number and the reason.
 pub fn bad_line(out: &mut String, line: u64, bad: Bad) -> Result<(), AllocError>
     ensures added { Adds result (bad_text line bad) (string_bytes out.old) (string_bytes out.new) }
+    ensures line_reads_back { NumberBack line }
 {
     write!(out, "bad line {line}: {bad}")
 }

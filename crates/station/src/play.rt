@@ -35,6 +35,11 @@ impl Shown for Words {
     }
 }
 
+fn say_number(out: &mut String, n: u64) -> Result<(), AllocError> {
+    out.push_str("ok ")?;
+    print::number(out, n)
+}
+
 fn say_put<C: Carrier>(c: &mut C, items: &Items, out: &mut String) -> Result<(), AllocError> {
     let all: Vec<Item<&[u8]>> = items
         .cells
@@ -42,7 +47,7 @@ fn say_put<C: Carrier>(c: &mut C, items: &Items, out: &mut String) -> Result<(),
         .map(|cell| item_in(*cell, &items.bytes))
         .collect(*out.allocator())?;
     match put_items(c, &all) {
-        Ok(n) => write!(out, "ok {n}"),
+        Ok(n) => say_number(out, n),
         Err(fault) => answers::case(out, fault.into()),
     }
 }
@@ -98,9 +103,9 @@ impl<C: Shown> Station for Queue<'_, C> {
                 out.push_str("ok ")?;
                 C::print_row(self.row(), out)?;
             }
-            Call::Room => write!(out, "ok {}", self.room())?,
+            Call::Room => say_number(out, self.room())?,
             Call::Waiting => write!(out, "{}", self.waiting())?,
-            Call::Price(cell, bytes) => write!(out, "ok {}", self.price(item_in(*cell, bytes)))?,
+            Call::Price(cell, bytes) => say_number(out, self.price(item_in(*cell, bytes)))?,
             Call::ItemPut(items) => say_put(self, items, out)?,
             Call::ItemTake(kinds) => say_take(self, kinds, out)?,
             Call::Carrier(_) => {}
