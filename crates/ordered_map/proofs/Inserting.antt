@@ -18,7 +18,7 @@ module _ {K V W : Type 0} (means : K → W) (numberof : W → ℕ) (m n : Ordere
   -- the key is there, and has another value now
   module _ (place : ℕ) (found : Meets (key_of means) (entries_of m) place (means new.key)) (old : V)
       (written : (e : Entry K V) → At m.entries.now place e → (old ≡ e.value) × (n.entries.now ≡ set m.entries.now place (record { key = e.key; value = new.value })))
-      (slots : n.slots.now ≡ m.slots.now) (len : n.len ≡ m.len) where
+      (len : n.len ≡ m.len) where
     abbrev entry : Entry K V
     entry = record { key = found.entry.key; value = new.value }
 
@@ -31,14 +31,14 @@ module _ {K V W : Type 0} (means : K → W) (numberof : W → ℕ) (m n : Ordere
     pub replaced : Replaced means (entries_of m) new old (entries_of n)
     replaced = record { place = place; entry = found.entry; at = found.at; same = found.same; was = all.0; is = after }
 
-    pub replaced_map : IsMap means numberof m → IsMap means numberof n
-    replaced_map is =
+    pub replaced_map : n.slots.now ≡ m.slots.now → IsMap means numberof m → IsMap means numberof n
+    replaced_map slots is =
         subst (λ ss. Mapped (key_of means) numberof (entries_of n) ss) (sym slots)
         (subst (λ es. Mapped (key_of means) numberof es m.slots.now) (sym after)
         (mapped_set (key_of means) numberof (entries_of m) m.slots.now place found.entry entry found.at refl is))
 
   -- the key is new, and comes last
-  module _ (at number : ℕ) (entries : n.entries.now ≡ set m.entries.now m.len new) (slots : n.slots.now ≡ set m.slots.now at (Some (record { number = number; position = m.len }))) (len : n.len ≡ m.len + 1)
+  module _ (at number : ℕ) (entries : n.entries.now ≡ set m.entries.now m.len new) (len : n.len ≡ m.len + 1)
       (room : m.len < capacity_of m) (free : IsFree (key_of means) numberof (entries_of m) m.slots.now (means new.key) at number) (is : IsMap means numberof m) where
     pushed : entries_of n ≡ entries_of m ++ new ∷ []
     pushed = ap (λ k. take k n.entries.now) len ∙ ap (take (m.len + 1)) entries ∙ take_more_set m.entries.now m.len new (omega arith)
@@ -46,8 +46,8 @@ module _ {K V W : Type 0} (means : K → W) (numberof : W → ℕ) (m n : Ordere
     pub appended : Appended means (entries_of m) new (entries_of n) × (length (entries_of m) < capacity_of m)
     appended = (record { absent = absent_by_free (key_of means) (entries_of m) new numberof m.slots.now is at number free; is = pushed }, omega (arith, used m))
 
-    pub appended_map : IsMap means numberof n
-    appended_map =
+    pub appended_map : n.slots.now ≡ set m.slots.now at (Some (record { number = number; position = m.len })) → IsMap means numberof n
+    appended_map slots =
         subst (λ ss. Mapped (key_of means) numberof (entries_of n) ss) (sym slots)
         (subst (λ es. Mapped (key_of means) numberof es (set m.slots.now at (Some (record { number = number; position = m.len })))) (sym pushed)
         (subst (λ k. Mapped (key_of means) numberof (entries_of m ++ new ∷ []) (set m.slots.now at (Some (record { number = number; position = k })))) (used m)
