@@ -1,9 +1,11 @@
 -- Steps through a line. Assumes nothing.
-use Rattle.std.proofs.Common.{◌≡◌, ℕ, suc, ◌+◌, ◌<◌, true, false, cond, eqb, List, [], ◌∷◌, ◌++◌, length, get_or, take, drop, sym, refl, ap, ◌∙◌, append_assoc, append-nil, length-append, Some, None, Option, inl, inr, arith}
+use Rattle.std.proofs.Common.{◌≡◌, ℕ, suc, ◌+◌, ◌<◌, true, false, cond, eqb, List, [], ◌∷◌, ◌++◌, length, get_or, take, drop, sym, refl, ap, ◌∙◌, append_assoc, append-nil, length-append, Some, None, Option, Err, inl, inr, arith}
 use Rattle.std.specs.List.{prefix_len, AllWithin, HoldsAt}
 use Rattle.std.specs.Option.{MatchOption, unwrap_or}
 use Rattle.std.proofs.lemmas.Bool.{cases_Bool}
 use Rattle.std.proofs.lemmas.List.Sums.{prefix_len_is}
+use Rattle.spelling.specs.declared.bad.Bad.TheVariants.{TooMuch}
+use Rattle.script.specs.Shapes.{at_end}
 use Rattle.script.specs.Lexing.{Tok, opening, closing, word, blank, in_word, lexing, tokens}
 
 pub lex_none : tokens [] ≡ []
@@ -61,6 +63,14 @@ word_on w (b ∷ bs) h = elim (cases_Bool (in_word b)) [
 pub cut_word : (line : List ℕ) → 0 < length line → in_word (get_or line 0 0) ≡ true → tokens line ≡ word (take (prefix_len in_word line) line) ∷ tokens (drop (prefix_len in_word line) line)
 cut_word [] h e = absurd (omega arith)
 cut_word (b ∷ bs) h e = rw e (lex_inner b [] bs e ∙ word_on (b ∷ []) bs (omega arith) ∙ word_more [] bs b (prefix_len in_word bs))
+
+-- what begins with no blank has a token
+pub cut_some : (line : List ℕ) → 0 < length line → blank (get_or line 0 0) ≡ false → at_end (tokens line) ≡ Err TooMuch
+cut_some [] h e = absurd (omega arith)
+cut_some (b ∷ bs) h e = elim (cases_Bool (in_word b)) [
+  | inl i ↦ ap at_end (cut_word (b ∷ bs) h i)
+  | inr o ↦ ap at_end (lex_bracket b bs (cond (eqb b 40) opening closing) o e refl)
+]
 
 -- the word ends at the first byte that may not stand in it, or with the line
 pub len_of_place : (line : List ℕ) (r : Option ℕ) (n : ℕ) → n ≡ length line

@@ -34,7 +34,7 @@ fn past_blanks(line: &[u8]) -> &[u8]
 fn is_inner(b: u8) -> bool
     ensures tested { result ≡ in_word b }
 {
-    !matches!(b, b' ' | b'\t' | b'(' | b')')
+    b != b' ' && b != b'\t' && b != b'(' && b != b')'
 }
 
 /// How many bytes the word has that begins the line.
@@ -123,14 +123,14 @@ impl<'a> Tokens<'a> {
         self.word_or(Bad::MissingArgument, Bad::Brackets)
     }
 
-    /// Sees that nothing is left.
-    pub(crate) fn end(&mut self) -> Result<(), Bad>
-        ensures nothing_left { result ≡ at_end (left self.old) }
+    /// Sees that nothing is left. (What is left is not cut.)
+    pub(crate) fn end(&self) -> Result<(), Bad>
+        ensures nothing_left { result ≡ at_end (left self.now) }
     {
-        match self.next() {
-            None => Ok(()),
-            Some(_) => Err(Bad::TooMuch),
+        if past_blanks(self.rest).is_empty() {
+            return Ok(());
         }
+        Err(Bad::TooMuch)
     }
 
     /// The name, the value and the closing bracket behind an opening one, or the fault that a caller names.
