@@ -2,7 +2,7 @@
 
 #![tactic(auto)]
 
-ghost use Rattle.std.specs.Prelude.{string_bytes};
+ghost use Rattle.std.specs.Prelude.{OnOk, string_bytes};
 ghost use Rattle.answers.specs.Refusing.{case_text, bad_text, NumbersBack};
 ghost use Rattle.print.specs.Laws.{NumberBack};
 ghost use Rattle.print.specs.Printing.{Adds};
@@ -15,7 +15,7 @@ use std::alloc::AllocError;
 /// same in words.
 pub fn case(out: &mut String, case: Case) -> Result<(), AllocError>
     ensures added { Adds result (case_text case) (string_bytes out.old) (string_bytes out.new) }
-    ensures numbers_read_back { NumbersBack case }
+    ensures numbers_read_back { OnOk result (NumbersBack case) }
 {
     let Case {
         refusal,
