@@ -26,6 +26,9 @@ pub fn number(out: &mut String, n: u64) -> Result<(), AllocError>
     write!(out, "{n}")
 }
 
+// Digits, bytes and texts are pushed, and not written by a `Display`: a formatter tests each character anew, which takes
+// twice as long.
+
 /// The hex digit of a number below 16.
 fn digit(d: u8) -> char
     requires { d < 16 }
