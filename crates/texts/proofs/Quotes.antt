@@ -1,9 +1,9 @@
 -- Texts in quotes, read byte by byte. Assumes nothing.
-use Rattle.std.proofs.Common.{◌≡◌, ℕ, zero, suc, Bool, true, false, cond, List, [], ◌∷◌, length, get_or, drop, Some, None, Option, sym, refl, ap, ◌∙◌, inl, inr, arith}
-use Rattle.std.specs.Option.{option_map}
-use Rattle.std.proofs.lemmas.Bool.{eq-eqb, ne_eqb, cases_eq}
+use Rattle.std.proofs.Common.{◌≡◌, ℕ, zero, suc, ◌≤◌, true, false, cond, ◌⊎◌, List, [], ◌∷◌, length, get_or, drop, Some, None, sym, refl, ap, ◌∙◌, inl, inr, arith}
+use Rattle.std.proofs.lemmas.Bool.{eq-eqb, ne_eqb, cases_eq, le-leb}
+use Rattle.std.proofs.lemmas.Bool.Decides.{nat_tests}
 use Rattle.spelling.specs.Decimals.{and_some}
-use Rattle.texts.specs.Encoded.{onto, shown, escape_of, front_of, if_none, quoted}
+use Rattle.texts.specs.Encoded.{onto, shown, byte_of, escape_of, if_none, quoted}
 
 quoted_skip : (k : ℕ) (bs : List ℕ) → quoted k bs ≡ quoted 0 (drop k bs)
 unfolding quoted
@@ -11,42 +11,36 @@ quoted_skip zero bs = refl
 quoted_skip (suc k) [] = refl
 quoted_skip (suc k) (b ∷ bs) = quoted_skip k bs
 
-abbrev Front : Type 0
-Front = Option (ℕ × List ℕ)
-
-read_on : Front → Option (List ℕ)
-read_on o = and_some o (λ p. onto p.0 (quoted 0 p.1))
-
-read_alike : (p q : ℕ × List ℕ) → Some p ≡ Some q → onto p.0 (quoted 0 p.1) ≡ onto q.0 (quoted 0 q.1)
-unfolding read_on
-read_alike p q e = ap read_on e
-
-escaped : (bs rest : List ℕ) (x : ℕ) (o : Option ℕ) → ◌≡◌ {A = Front} (Some (x, rest)) (option_map (λ y. (y, drop 3 bs)) o) → and_some o (λ y. onto y (quoted 3 bs)) ≡ onto x (quoted 0 rest)
-escaped bs rest x None e = cc
-escaped bs rest x (Some y) e = ap (onto y) (quoted_skip 3 bs) ∙ sym (read_alike _ _ e)
-
-plain : (b : ℕ) (bs rest : List ℕ) (x : ℕ) (t : Bool) → ◌≡◌ {A = Front} (Some (x, rest)) (cond t (Some (b, bs)) None) → cond t (onto b (quoted 0 bs)) None ≡ onto x (quoted 0 rest)
-plain b bs rest x false e = cc
-plain b bs rest x true e = sym (read_alike _ _ e)
-
 pub plain_step : (b : ℕ) (bs : List ℕ) → (b ≡ 34 → ⊥) → (b ≡ 92 → ⊥) → quoted 0 (b ∷ bs) ≡ cond (shown b) (onto b (quoted 0 bs)) None
 unfolding quoted
 plain_step b bs p q = rw (ne_eqb b 34 p, ne_eqb b 92 q)
 
-front_plain : (b : ℕ) (bs : List ℕ) → (b ≡ 92 → ⊥) → front_of (b ∷ bs) ≡ cond (shown b) (Some (b, bs)) None
-front_plain b bs q = ap (λ t. cond {A = Front} t (option_map (λ x. (x, drop 3 bs)) (escape_of (b ∷ bs))) (cond (shown b) (Some (b, bs)) None)) (ne_eqb b 92 q)
+not_shown : (b k : ℕ) → k ≡ 34 ⊎ k ≡ 92 → true ≡ shown b → b ≡ k → ⊥
+not_shown b k o e = grind (arith, nat_tests)
 
--- what is read of a text by its first byte
-pub quoted_front : (bs rest : List ℕ) (x : ℕ) → Some (x, rest) ≡ front_of bs → quoted 0 bs ≡ onto x (quoted 0 rest)
+-- a byte that stands as it is
+pub quoted_shown : (bs : List ℕ) → 1 ≤ length bs → true ≡ shown (get_or bs 0 0) → quoted 0 bs ≡ onto (get_or bs 0 0) (quoted 0 (drop 1 bs))
+quoted_shown [] l e = absurd (omega arith)
+quoted_shown (b ∷ bs) l e = plain_step b bs (not_shown b 34 (inl refl) e) (not_shown b 92 (inr refl) e) ∙ ap (λ t. cond t (onto b (quoted 0 bs)) None) (sym e)
+
+escape_step : (b : ℕ) (bs : List ℕ) → b ≡ 92 → quoted 0 (b ∷ bs) ≡ and_some (escape_of (b ∷ bs)) (λ x. onto x (quoted 0 (drop 3 bs)))
 unfolding quoted
-quoted_front [] rest x e = cc
-quoted_front (b ∷ bs) rest x e = elim (cases_eq b 34) [
-  | inl h ↦ let f : front_of (b ∷ bs) ≡ None = rw h refl in cc
-  | inr n ↦ elim (cases_eq b 92) [
-    | inl h ↦ rw (ne_eqb b 34 n, eq-eqb b 92 h) (escaped bs rest x (escape_of (b ∷ bs)) (rw (eq-eqb b 92 h) at e))
-    | inr m ↦ plain_step b bs n m ∙ plain b bs rest x (shown b) (e ∙ front_plain b bs m)
-  ]
-]
+escape_step b bs h = rw (ne_eqb b 34 (λ e. omega arith), eq-eqb b 92 h) (ap (λ q. and_some (escape_of (b ∷ bs)) (λ x. onto x q)) (quoted_skip 3 bs))
+
+escape_byte : (bs : List ℕ) → 4 ≤ length bs → get_or bs 1 0 ≡ 120 → escape_of bs ≡ byte_of (get_or bs 2 0) (get_or bs 3 0)
+escape_byte bs l e = rw (le-leb 4 (length bs) l, eq-eqb (get_or bs 1 0) 120 e)
+
+read_byte : (bs : List ℕ) → 4 ≤ length bs → get_or bs 0 0 ≡ 92 → get_or bs 1 0 ≡ 120 → quoted 0 bs ≡ and_some (byte_of (get_or bs 2 0) (get_or bs 3 0)) (λ x. onto x (quoted 0 (drop 4 bs)))
+read_byte [] l h e = absurd (omega arith)
+read_byte (b ∷ bs) l h e = escape_step b bs h ∙ ap (λ o. and_some o (λ x. onto x (quoted 0 (drop 3 bs)))) (escape_byte (b ∷ bs) l e)
+
+-- an escape
+module _ (bs : List ℕ) (long : 4 ≤ length bs) (slash : get_or bs 0 0 ≡ 92) (hex : get_or bs 1 0 ≡ 120) where
+  pub quoted_escape : (x : ℕ) → Some x ≡ byte_of (get_or bs 2 0) (get_or bs 3 0) → quoted 0 bs ≡ onto x (quoted 0 (drop 4 bs))
+  quoted_escape x e = read_byte bs long slash hex ∙ ap (λ o. and_some o (λ x. onto x (quoted 0 (drop 4 bs)))) (sym e)
+
+  pub quoted_no_digits : None ≡ byte_of (get_or bs 2 0) (get_or bs 3 0) → quoted 0 bs ≡ None
+  quoted_no_digits e = read_byte bs long slash hex ∙ ap (λ o. and_some o (λ x. onto x (quoted 0 (drop 4 bs)))) (sym e)
 
 -- the quote ends the text
 pub quoted_end : (bs : List ℕ) → length bs ≡ 1 → get_or bs 0 0 ≡ 34 → quoted 0 bs ≡ Some []
@@ -55,25 +49,22 @@ quoted_end [] l e = absurd (omega arith)
 quoted_end (b ∷ []) l e = rw (eq-eqb b 34 e)
 quoted_end (b ∷ c ∷ bs) l e = absurd (omega arith)
 
-unshown : (b : ℕ) (bs : List ℕ) (t : Bool) → ◌≡◌ {A = Front} None (cond t (Some (b, bs)) None) → cond t (onto b (quoted 0 bs)) None ≡ None
-unshown b bs false e = refl
-unshown b bs true e = cc
-
-unescaped : (bs : List ℕ) (o : Option ℕ) → ◌≡◌ {A = Front} None (option_map (λ y. (y, drop 3 bs)) o) → and_some o (λ y. onto y (quoted 3 bs)) ≡ None
-unescaped bs None e = refl
-unescaped bs (Some y) e = cc
+no_escape : (bs : List ℕ) → (4 ≤ length bs → get_or bs 1 0 ≡ 120 → ⊥) → escape_of bs ≡ None
+no_escape bs n = grind (arith, nat_tests)
 
 some_left : (b : ℕ) (bs : List ℕ) → b ≡ 34 → (length (b ∷ bs) ≡ 1 → b ≡ 34 → ⊥) → if_none bs ≡ None
 some_left b [] e n = absurd (n refl e)
 some_left b (c ∷ bs) e n = refl
 
-pub quoted_none : (bs : List ℕ) → None ≡ front_of bs → (length bs ≡ 1 → get_or bs 0 0 ≡ 34 → ⊥) → quoted 0 bs ≡ None
+-- none of the three
+pub quoted_none : (bs : List ℕ) → (length bs ≡ 1 → get_or bs 0 0 ≡ 34 → ⊥) → ((get_or bs 0 0 ≡ 92 → ⊥) → 1 ≤ length bs → false ≡ shown (get_or bs 0 0))
+    → (4 ≤ length bs → get_or bs 0 0 ≡ 92 → get_or bs 1 0 ≡ 120 → ⊥) → quoted 0 bs ≡ None
 unfolding quoted
-quoted_none [] e n = refl
-quoted_none (b ∷ bs) e n = elim (cases_eq b 34) [
+quoted_none [] n s m = refl
+quoted_none (b ∷ bs) n s m = elim (cases_eq b 34) [
   | inl h ↦ rw (eq-eqb b 34 h) (some_left b bs h n)
-  | inr m ↦ elim (cases_eq b 92) [
-    | inl h ↦ rw (ne_eqb b 34 m, eq-eqb b 92 h) (unescaped bs (escape_of (b ∷ bs)) (rw (eq-eqb b 92 h) at e))
-    | inr k ↦ plain_step b bs m k ∙ unshown b bs (shown b) (e ∙ front_plain b bs k)
+  | inr p ↦ elim (cases_eq b 92) [
+    | inl h ↦ escape_step b bs h ∙ ap (λ o. and_some o (λ x. onto x (quoted 0 (drop 3 bs)))) (no_escape (b ∷ bs) (λ l. m l h))
+    | inr q ↦ plain_step b bs p q ∙ ap (λ t. cond t (onto b (quoted 0 bs)) None) (sym (s q (omega arith)))
   ]
 ]

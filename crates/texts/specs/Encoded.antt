@@ -1,5 +1,5 @@
 -- The bytes and bits that words spell. Assumes nothing.
-use Rattle.std.specs.Prelude.{◌≡◌, ℕ, zero, suc, ◌+◌, ◌-◌, ◌*◌, Bool, false, cond, not, ◌&&◌, ◌⊎◌, List, [], ◌∷◌, ◌++◌, length, drop, Some, None, Ok, Err, Option, Result, ◌==◌, nat_le, nat_lt, slice_index}
+use Rattle.std.specs.Prelude.{◌≡◌, ℕ, zero, suc, ◌+◌, ◌-◌, ◌*◌, Bool, false, cond, not, ◌&&◌, ◌⊎◌, List, [], ◌∷◌, ◌++◌, length, Some, None, Ok, Err, Option, Result, ◌==◌, nat_le, nat_lt, slice_index}
 use Rattle.std.specs.Option.{option_map}
 use Rattle.spelling.specs.Decimals.{and_some}
 use Rattle.spelling.specs.declared.bad.Bad.{Bad}
@@ -43,11 +43,6 @@ shown b = nat_lt 32 b && nat_lt b 127 && not (b == 34) && not (b == 92) && not (
 -- the byte that \xHH spells
 abbrev pub escape_of : List ℕ → Option ℕ
 escape_of bs = cond (nat_le 4 (length bs) && slice_index bs 1 == 120) (byte_of (slice_index bs 2) (slice_index bs 3)) None
-
--- the byte that a text begins with, as it is or as an escape, and what stands behind it
-abbrev pub front_of : List ℕ → Option (ℕ × List ℕ)
-front_of [] = None
-front_of (b ∷ bs) = cond (b == 92) (option_map (λ x. (x, drop 3 bs)) (escape_of (b ∷ bs))) (cond (shown b) (Some (b, bs)) None)
 
 abbrev pub if_none : List ℕ → Option (List ℕ)
 if_none [] = Some []

@@ -4,17 +4,22 @@
 #![tactic(auto)]
 
 ghost use Rattle.std.specs.Prelude.{◌≡◌, ◌^◌, ◌<◌, ◌≤◌, IfSome};
-ghost use Rattle.std.specs.Option.{ok_or, option_map};
-ghost use Rattle.texts.specs.Encoded.{hex_digit, byte_of, bytes_of, bits_of, shown, front_of, text_of, Gains};
+ghost use Rattle.std.specs.Option.{ok_or};
+ghost use Rattle.texts.specs.Encoded.{hex_digit, byte_of, bytes_of, bits_of, shown, text_of, Gains};
 ghost use Rattle.spelling.specs.declared.bad.Bad.TheVariants.{NotBytes, NotBits, NotText};
 
 use spelling::bad::Bad;
 
 /// What the hex digit stands for.
-fn nibble(b: u8) -> Option<u32>
+fn nibble(b: u8) -> Option<u8>
     ensures the_digit { result ≡ hex_digit b }
 {
-    char::from(b).to_digit(16)
+    match b {
+        b'0'..=b'9' => Some(b - b'0'),
+        b'a'..=b'f' => Some(b - b'a' + 10),
+        b'A'..=b'F' => Some(b - b'A' + 10),
+        _ => None,
+    }
 }
 
 /// The byte that two hex digits spell.
@@ -23,7 +28,7 @@ fn byte(high: u8, low: u8) -> Option<u8>
 {
     let h = nibble(high)?;
     let l = nibble(low)?;
-    Some((16 * h + l) as u8)
+    Some(16 * h + l)
 }
 
 /// Adds the bytes that a word as x0aff spells. Where it spells none, some may have been added.
@@ -86,17 +91,6 @@ pub fn is_shown(b: u8) -> bool
     b > 0x20 && b < 0x7f && b != b'"' && b != b'\\' && b != b'(' && b != b')'
 }
 
-/// The byte that a text begins with, as it is or as an escape, and what stands behind it.
-fn first_byte(text: &[u8]) -> Option<(u8, &[u8])>
-    ensures spelled { option_map (λ p. (p.0, p.1.now)) result ≡ front_of text.now }
-{
-    match text {
-        [b'\\', b'x', high, low, rest @ ..] => Some((byte(*high, *low)?, rest)),
-        [b, rest @ ..] if is_shown(*b) => Some((*b, rest)),
-        _ => None,
-    }
-}
-
 /// Adds the bytes of a text in quotes. Where the word is none, some may have been added.
 pub fn add_text(out: &mut Vec<u8>, word: &[u8]) -> Result<(), Bad>
     ensures added { Gains NotText result (text_of word.now) out.old.items out.new.items }
@@ -105,12 +99,21 @@ pub fn add_text(out: &mut Vec<u8>, word: &[u8]) -> Result<(), Bad>
         return Err(Bad::NotText);
     };
     let mut rest = inner;
-    while let Some((b, after)) = first_byte(rest) {
-        out.push(b)?;
-        rest = after;
+    while let [b, after @ ..] = rest {
+        if *b == b'\\' {
+            let [_, b'x', high, low, behind @ ..] = rest else {
+                return Err(Bad::NotText);
+            };
+            out.push(byte(*high, *low).ok_or(Bad::NotText)?)?;
+            rest = behind;
+        } else if is_shown(*b) {
+            out.push(*b)?;
+            rest = after;
+        } else if *b == b'"' && after.is_empty() {
+            return Ok(());
+        } else {
+            return Err(Bad::NotText);
+        }
     }
-    match rest {
-        [b'"'] => Ok(()),
-        _ => Err(Bad::NotText),
-    }
+    Err(Bad::NotText)
 }
