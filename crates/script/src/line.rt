@@ -83,6 +83,8 @@ impl<'a> Iterator for Tokens<'a> {
 
     ghost remaining = { item_count left };
 
+    // A call for each token costs a quarter of the reading of short items.
+    #[inline(always)]
     fn next(&mut self) -> Option<Token<'a>> {
         let (token, rest) = first_token(self.rest)?;
         self.rest = rest;
