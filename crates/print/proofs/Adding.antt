@@ -35,3 +35,14 @@ module _ {X : Type 0} (f : X → List ℕ) (start : List ℕ) (xs : List X) wher
 
   pub joins_all : (out : List ℕ) (i : ℕ) → length xs ≤ i → out ≡ start ++ flat_map f (take i xs) → out ≡ start ++ flat_map f xs
   joins_all out i h e = e ∙ ap (λ l. start ++ flat_map f l) (take_all i xs h)
+
+-- a byte more, its two digits one after another
+pub byte_more : (bs : List ℕ) (i : ℕ) → i < length bs → get_or bs i 0 < 256
+    → (flat_map (hex_digits 2) (take i bs) ++ (glyph (get_or bs i 0 / 16) ∷ [])) ++ (glyph (get_or bs i 0 % 16) ∷ []) ≡ flat_map (hex_digits 2) (take (i + 1) bs)
+unfolding hex_digits
+byte_more bs i h k =
+    let before = flat_map (hex_digits 2) (take i bs) in
+    let b = get_or bs i 0 in
+    let low : b / 16 ≡ b / 16 % 16 = omega (arith, k) in
+    append_assoc before (glyph (b / 16) ∷ []) (glyph (b % 16) ∷ []) ∙ ap (λ d. before ++ (glyph d ∷ glyph (b % 16) ∷ [])) low
+    ∙ flat_map_more (hex_digits 2) [] (take i bs) b ∙ ap (flat_map (hex_digits 2)) (sym (take_more bs i 0 h))

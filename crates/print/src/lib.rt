@@ -9,7 +9,7 @@ ghost use Rattle.print.specs.Printing.{Adds, glyph, hex_digits, hex_text, byte_t
 
 mod display;
 
-use crate::display::Row;
+use crate::display::{InHex, Row};
 use carrier::Item;
 use carrier::held::item_held;
 use script::items::Noun;
@@ -58,11 +58,7 @@ pub fn hex(out: &mut String, bytes: &[u8]) -> Result<(), AllocError>
     ensures added { Adds result (hex_text bytes.now) (string_bytes out.old) (string_bytes out.new) }
     ensures read_back { BytesBack bytes.now }
 {
-    out.push_str("x")?;
-    for b in bytes {
-        add_digits(out, u64::from(*b), 2)?;
-    }
-    Ok(())
+    write!(out, "{}", InHex(bytes))
 }
 
 /// A byte of a text, as it is or as an escape.
