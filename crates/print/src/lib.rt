@@ -26,8 +26,8 @@ pub fn number(out: &mut String, n: u64) -> Result<(), AllocError>
     write!(out, "{n}")
 }
 
-// Digits, bytes and texts are pushed, and not written by a `Display`: a formatter tests each character anew, which takes
-// twice as long.
+// Digits and texts are pushed, and not written by a `Display`: a formatter tests each character anew, which takes twice
+// as long. Bytes in hex are written by one, in pieces that it takes as they are.
 
 /// The hex digit of a number below 16.
 fn digit(d: u8) -> char

@@ -14,5 +14,5 @@ loop-b-preserved g c plain =
     let low : List ℕ = glyph (get_or bs i 0 % 16) ∷ [] in
     let fits : get_or bs i 0 < 256 = search rules in
     has_written_of_eq _ _ ((before ++ high) ++ low) _ _ (byte_more bs i c.loop-b-test.true fits)
-        (has_written_append _ c.write_str.new.self (before ++ high) c.write_str-in-loop-b.new.self low c.write_str-in-loop-b-2.new.self
-            (has_written_append _ c.write_str.new.self before c.loop-b.f high c.write_str-in-loop-b.new.self (c.loop-b.invariant plain) (search rules)) (search rules))
+    (has_written_append _ c.write_str.new.self (before ++ high) c.write_str-in-loop-b.new.self low c.write_str-in-loop-b-2.new.self
+    (has_written_append _ c.write_str.new.self before c.loop-b.f high c.write_str-in-loop-b.new.self (c.loop-b.invariant plain) (search rules)) (search rules))
