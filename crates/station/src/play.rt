@@ -1,6 +1,8 @@
 //! The calls of a script, one after another.
 
-ghost use Rattle.std.specs.Prelude.{◌<◌, IfOk, OnSome};
+ghost use Rattle.std.specs.Prelude.{◌<◌, ◌++◌, IfOk, OnSome, codes, decimal, string_bytes};
+ghost use Rattle.print.specs.Laws.{NumberBack};
+ghost use Rattle.print.specs.Printing.{Adds};
 ghost use Rattle.station.specs.Left.{left};
 
 use crate::lines::Lines;
@@ -35,7 +37,11 @@ impl Shown for Words {
     }
 }
 
-fn say_number(out: &mut String, n: u64) -> Result<(), AllocError> {
+/// A number as an answer, which is read as that number again.
+fn say_number(out: &mut String, n: u64) -> Result<(), AllocError>
+    ensures added { Adds result (codes "ok " ++ decimal n) (string_bytes out.old) (string_bytes out.new) }
+    ensures reads_back { NumberBack n }
+{
     out.push_str("ok ")?;
     print::number(out, n)
 }
