@@ -31,6 +31,7 @@ fn past_blanks(line: &[u8]) -> &[u8]
 }
 
 /// Whether the byte may stand in a word.
+// Compared one by one: by a pattern of the four, which looks the byte up, a word takes twice the instructions.
 fn is_inner(b: u8) -> bool
     ensures tested { result ≡ in_word b }
 {
