@@ -16,7 +16,7 @@ BytesBack bs = bytes_of (hex_text bs) ≡ Some bs
 abbrev pub TextBack : List ℕ → Type 0
 TextBack bs = text_of (text_text bs) ≡ Some bs
 
--- what a run's bytes are printed as
+-- of a run: what its bytes are printed as is read as them
 abbrev pub RunBack : Datum → Type 0
 RunBack (truth b) = Unit {0}
 RunBack (whole z) = Unit {0}

@@ -3,6 +3,7 @@
 #![tactic(auto)]
 
 ghost use Rattle.std.specs.Prelude.{◌≡◌, ◌<◌, ◌∷◌, string_bytes, decimal};
+ghost use Rattle.std.specs.List.{AllByRecursion};
 ghost use Rattle.carrier.specs.Meaning.{datum};
 ghost use Rattle.print.specs.Laws.{NumberBack, BytesBack, TextBack, RunBack, ItemBack};
 ghost use Rattle.print.specs.Printing.{Adds, glyph, hex_digits, hex_text, byte_text, text_text, words_text, noun_in, value_text, item_text, cells_text};
@@ -87,6 +88,7 @@ pub(crate) fn text(out: &mut String, bytes: &[u8]) -> Result<(), AllocError>
 /// A row of words in brackets.
 pub fn words(out: &mut String, row: &[u64]) -> Result<(), AllocError>
     ensures added { Adds result (words_text row.now) (string_bytes out.old) (string_bytes out.new) }
+    ensures numbers_read_back { AllByRecursion NumberBack row.now }
 {
     write!(out, "{}", Row(row))
 }
