@@ -50,9 +50,7 @@ impl Coding for Avro {
 
     ghost laws = { avro_laws };
 
-    ghost Samples = { Published };
-
-    ghost samples = { published };
+    ghost samples = { record { says = Published; holds = published } };
 
     fn len(item: Item<&[u8]>) -> usize {
         code_len(item)

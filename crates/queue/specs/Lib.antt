@@ -1,2 +1,3 @@
+pub mod Sampled
 pub mod Fronts
 pub mod Queues

@@ -4,6 +4,7 @@ ghost use Rattle.std.specs.Prelude.{◌≡◌, ℕ, List, length, map};
 ghost use Rattle.carrier.specs.Items.{Datum, truth, whole, single, double, Laws};
 ghost use Rattle.carrier.specs.Meaning.{datum};
 ghost use Rattle.queue.specs.Fronts.{Finds, FindsFixed, FindsRun, Writes};
+ghost use Rattle.queue.specs.Sampled.{Samples, no_samples};
 
 use carrier::{Item, Kind};
 
@@ -19,10 +20,8 @@ pub trait Coding {
 
     ghost laws: { Laws code };
 
-    // What published samples say of the code, which holds. Where none are published: Unit.
-    ghost Samples: { Type 0 };
-
-    ghost samples: { Samples };
+    // What published samples say of the code, which holds. An impl need not give any.
+    ghost samples: { Samples } = { no_samples };
 
     /// The length of the item's code.
     fn len(item: Item<&[u8]>) -> usize

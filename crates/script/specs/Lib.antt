@@ -2,6 +2,7 @@ pub mod Lexing
 pub mod Cutting
 pub mod Shapes
 pub mod Nouns
+pub mod Owning
 pub mod Laying
 pub mod Seeking
 pub mod Keys

@@ -1,16 +1,18 @@
 //! Items and kinds as words and pairs in brackets.
 
 ghost use Rattle.std.specs.Prelude.{◌≡◌, vec_items, true, false};
+ghost use Rattle.carrier.specs.Meaning.{datum};
 ghost use Rattle.script.specs.Cutting.{couple, left};
 ghost use Rattle.std.specs.Option.{ok_or};
 ghost use Rattle.texts.specs.Encoded.{bytes_of, is_text};
 ghost use Rattle.spelling.specs.declared.bad.Bad.TheVariants.{NotBytes};
 ghost use Rattle.script.specs.Laying.{Extends, Spans, Lays, Listed};
+ghost use Rattle.script.specs.Owning.{owned};
 ghost use Rattle.script.specs.Nouns.{noun_name, truth_of, spanned_of, item_of, items_of, kind_named, kind_of, kinds_of};
 ghost use Rattle.script.specs.Shapes.{Meets};
 
 use crate::line::{Pair, Token, Tokens};
-use carrier::Kind;
+use carrier::{Item, Kind};
 use spelling::bad::Bad;
 use spelling::names::{Named, pick};
 use spelling::numbers::{size, whole};
@@ -189,4 +191,34 @@ pub(crate) fn read_kinds(tokens: &mut Tokens) -> Result<Vec<Kind>, Bad>
         }
     }
     Ok(all)
+}
+
+/// The item, with the bytes that it owns lent. (No `From`: both types are other crates'.)
+pub fn lent<'a>(item: &'a Item<Vec<u8>>) -> Item<&'a [u8]>
+    ensures same { datum result ≡ owned item.now }
+{
+    match item {
+        Item::Truth(b) => Item::Truth(*b),
+        Item::Whole(z) => Item::Whole(*z),
+        Item::Single(bits) => Item::Single(*bits),
+        Item::Double(bits) => Item::Double(*bits),
+        Item::Run(bytes) => Item::Run(bytes.as_slice()),
+        Item::Fixed(bytes) => Item::Fixed(bytes.as_slice()),
+    }
+}
+
+#[cfg(test)]
+mod tests {
+    use super::*;
+    use std::test::Fail;
+
+    #[test]
+    fn lends_what_it_owns(rt: HostRuntime) -> Result<(), Fail> {
+        let run = Item::Run([7, 8].to_vec(rt.alloc())?);
+        let fixed = Item::Fixed([7, 8].to_vec(rt.alloc())?);
+        assert!(rt; matches!(lent(&run), Item::Run([7, 8])));
+        assert!(rt; matches!(lent(&fixed), Item::Fixed([7, 8])));
+        assert!(rt; matches!(lent(&Item::Whole(-3)), Item::Whole(-3)));
+        Ok(())
+    }
 }

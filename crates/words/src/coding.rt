@@ -19,10 +19,6 @@ impl Coding for Words {
 
     ghost laws = { word_laws };
 
-    ghost Samples = { Unit {0} };
-
-    ghost samples = { tt };
-
     fn len(item: Item<&[u8]>) -> usize {
         match item {
             Item::Run(s) => s.len() + 2,

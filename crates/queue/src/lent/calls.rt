@@ -13,7 +13,7 @@ impl<'a, C: Coding> Queue<'a, C> {
     pub fn on_memory(memory: &'a mut [C::Number]) -> Queue<'a, C>
         ensures empty { state_of result ≡ record { row = []; capacity = length memory.old; count = 0 } }
         ensures keeps_both_laws { Laws C.code }
-        ensures published_codes { C.Samples }
+        ensures published_codes { C.samples.says }
     {
         let capacity = memory.len();
         Queue {
